@@ -1,0 +1,6 @@
+pub mod Bits
+pub mod Talk
+pub mod Told
+pub mod Block
+pub mod Numbers
+pub mod Refusal
