@@ -1,0 +1,4 @@
+pub mod Laws
+pub mod Bounds
+pub mod Runs
+pub mod Theorems

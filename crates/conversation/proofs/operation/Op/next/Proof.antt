@@ -1,0 +1,14 @@
+use borrow.Author.Needs.{needs}
+use Rattle.conversation.proofs.operation.Op.next.Statement.{statement}
+use Rattle.conversation.proofs.operation.Op.next.Tie as tie
+
+pub next-spec : {M : Type 1} → statement M
+next-spec =
+    tie.close
+    (tie.spec
+    (λ c. search needs)
+    (λ c κs. search needs)
+    (λ c. search needs)
+    (λ c κs. search needs)
+    (λ c. λ b. simp (c .before .enum-told .given .1, c .veto .ensures))
+    (λ c. λ b. simp (c .before .enum-told2 .given .1, c .link .ensures)))

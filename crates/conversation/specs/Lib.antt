@@ -1,0 +1,4 @@
+pub mod Act
+pub mod Conversation
+pub mod Run
+pub mod Bound

@@ -1,0 +1,164 @@
+// A conversation by value: begin, and one step.
+use crate::action::reply_of;
+use crate::action::uses_of;
+use crate::action::waited_of;
+use crate::operation::Op;
+use crate::operation::Operation;
+use crate::operation::Place;
+use answers::Answer;
+use hardware::Action;
+use hardware::Error;
+use hardware::Port;
+use hardware::Reply;
+use hardware::Unit;
+ghost use mathlib.Core.Path.{_≡_};
+ghost use Prim.Native.Nat.{_≤_};
+ghost use mathlib.Core.List.{[]};
+ghost use lib.ListN.{length};
+ghost use Rattle.hardware.specs.Block.{fail};
+ghost use Rattle.conversation.specs.Conversation.{
+  told,
+  resumeOp,
+  convOf,
+  gone,
+  opening,
+  padded,
+  begun,
+  number,
+  steppedOf,
+  stepTalk,
+};
+
+// The whole state of a conversation.
+pub struct Conversation {
+    pub port: Port,
+    pub place: Place,
+    pub block: [u32; 16],
+    pub actions: u64,
+    pub micros: u64,
+}
+
+// How a step or a run stopped. Done: a step's action is done, or a run has come to the conversation's end.
+pub enum Stop {
+    Done,
+    AfterEnd,
+    BadReply,
+    NoReply,
+    NoRoom,
+}
+
+// What a step answers. Where it stopped with a number, the conversation is the one that was handed in.
+pub struct Stepped {
+    pub stop: Stop,
+    pub to: Conversation,
+}
+
+impl Stop {
+    // Document 01's number, 0 for Done.
+    pub fn number(self) -> u32
+        ensures { λ r. ⌜ number self ≡ r ⌝ }
+    {
+        match self {
+            Stop::Done => 0,
+            Stop::AfterEnd => 24,
+            Stop::BadReply => 25,
+            Stop::NoReply => 26,
+            Stop::NoRoom => 27,
+        }
+    }
+}
+
+// The words of a block that is lent, then zeros.
+fn copied(block: &[u32]) -> [u32; 16]
+    requires { ⌜ length (now block) ≤ 16 ⌝ }
+    ensures { λ r. ⌜ r ≡ padded (now (block .entry)) ⌝ }
+{
+    let mut b = [0u32; 16];
+    let mut i = 0;
+    while i < block.len() {
+        b[i] = block[i];
+        i += 1;
+    }
+    b
+}
+
+impl Conversation {
+    // A conversation that has ended from the start, for a call that is turned away.
+    fn refused(port: Port, e: Error) -> Conversation
+        ensures { λ r. ⌜ convOf r ≡ opening port (fail e (padded [])) ⌝ }
+    {
+        let block = [0u32; 16];
+        Conversation {
+            port,
+            place: Place::Ended(Answer::Err(e)),
+            block,
+            actions: 0,
+            micros: 0,
+        }
+    }
+
+    // Begins an operation, with the words of its host block, of which only `command` makes use.
+    pub fn begin(port: Port, what: Operation, block: &[u32]) -> Conversation
+        ensures { λ r. ⌜ convOf r ≡ begun port what (now (block .entry)) ⌝ }
+    {
+        match port.refusal(what.phy(), what.device(), block.len()) {
+            Unit::Err(e) => Conversation::refused(port, e),
+            Unit::Ok => {
+                let words = copied(block);
+                Conversation {
+                    port,
+                    place: what.start(port),
+                    block: words,
+                    actions: 0,
+                    micros: 0,
+                }
+            }
+        }
+    }
+
+    // The action is answered, and counted. Both `step` and `run` go this way.
+    pub fn answered(self, a: Action, op: Op, reply: Reply) -> Conversation
+        ensures { λ r. ⌜ convOf r ≡ gone (convOf self) a (resumeOp (self .port) op reply (self .block)) ⌝ }
+    {
+        let port = self.port;
+        let block = self.block;
+        Conversation {
+            port,
+            place: op.next(port, reply),
+            block,
+            actions: std::num::wrapping_add_u64(self.actions, 1),
+            micros: std::num::wrapping_add_u64(self.micros, waited_of(a)),
+        }
+    }
+
+    // One action is answered with a reply's two words.
+    pub fn step(self, kind: u32, value: u32) -> Stepped
+        ensures { λ r. ⌜ steppedOf r ≡ stepTalk (convOf self) kind value ⌝ }
+    {
+        let place = self.place;
+        match place {
+            Place::Ended(_) => Stepped {
+                stop: Stop::AfterEnd,
+                to: self,
+            },
+            Place::Asks(a, op) => {
+                if uses_of(a) == 0 {
+                    Stepped {
+                        stop: Stop::Done,
+                        to: self.answered(a, op, Reply::Done(0)),
+                    }
+                } else if kind > 1 {
+                    Stepped {
+                        stop: Stop::BadReply,
+                        to: self,
+                    }
+                } else {
+                    Stepped {
+                        stop: Stop::Done,
+                        to: self.answered(a, op, reply_of(kind, value)),
+                    }
+                }
+            }
+        }
+    }
+}

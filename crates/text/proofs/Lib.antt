@@ -1,0 +1,9 @@
+pub mod LineLaws
+pub mod WordLaws
+pub mod PartLaws
+pub mod HexLaws
+pub mod SameLaws
+pub mod PutLaws
+pub mod DigitLaws
+pub mod Back
+pub mod Examples
