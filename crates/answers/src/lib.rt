@@ -1,4 +1,6 @@
 // What the operations answer, and an answer's words in a listing.
+pub mod fields;
+
 use hardware::Error;
 use words::link::Link;
 use words::phy::PhyId;

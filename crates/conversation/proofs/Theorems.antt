@@ -18,8 +18,9 @@ use Rattle.hardware.specs.declared.Reply.the-variants as reply
 use Rattle.conversation.specs.Act.{uses, waited, words, replyOf, replyFor, usedBy, waitedBy, wordsOf}
 use Rattle.conversation.specs.Bound.{Ends, Within, at-end, at-ask}
 use Rattle.conversation.specs.Conversation.{Conv, Out, begun, gone, stepOn, stepTalk}
-use Rattle.conversation.specs.Run.{Run, stopped, before, runTalk, joined, Tape, onTape, after, tapeOf, Shown, shown, runInto, bad, runAll}
-use Rattle.conversation.specs.declared.conversation.Stop.the-variants.{Done, NoRoom, NoReply}
+use Rattle.conversation.specs.Run.{Run, stopped, before, runTalk, joined, Tape, onTape, after, tapeOf, Shown, shown, left, runInto, bad, refusedRun, runFrom, runAll}
+use Rattle.conversation.specs.declared.conversation.Stop.{Stop}
+use Rattle.conversation.specs.declared.conversation.Stop.the-variants.{AfterEnd, BadReply, NoRoom, NoReply}
 use Rattle.conversation.specs.declared.operation.Operation.{Operation}
 use Rattle.conversation.proofs.Bounds.{within-begun}
 use Rattle.conversation.proofs.Laws.{all-run}
@@ -49,10 +50,6 @@ ends (ask a k) f =
 -- the actions that a run does
 abbrev pub doneBy : Conv → List ℕ → List ℕ → ℕ → ℕ → List Action
 doneBy c rs t at used = runTalk (c .talk) (drop used rs) (length t - at) .done
-
--- the conversation that it leaves
-abbrev pub left : Shown → Conv
-left s = record { port = s .port; talk = s .talk; actions = s .tape .actions; micros = s .tape .micros }
 
 module _ (c : Conv) (rs t : List ℕ) (at used : ℕ) where
   room : 3 * length (doneBy c rs t at used) ≤ length t - at
@@ -96,6 +93,37 @@ module _ (c : Conv) (rs t : List ℕ) (at used : ℕ) where
 words-append : (d e : List Action) → wordsOf (d ++ e) ≡ wordsOf d ++ wordsOf e
 words-append [] e = refl
 words-append (a ∷ d) e = ap (λ (l : List ℕ). words a ++ l) (words-append d e)
+
+-- a run's next place is three words for each action behind its first, and within its transcript
+pub record Placed (s : Shown) (t : List ℕ) (at : ℕ) : Type 0 where
+  pub actions : ℕ
+  pub place : s .tape .at ≡ at + 3 * actions
+  pub within : 3 * actions ≤ length t - at
+  pub same-length : length (s .tape .transcript) ≡ length t
+
+placed-run : (c : Conv) (rs t : List ℕ) (at used : ℕ) → Placed (runInto c rs t at used) t at
+unfolding runInto
+placed-run c rs t at used =
+    record {
+      actions = length (doneBy c rs t at used);
+      place = at-after (tapeOf c t at used) (doneBy c rs t at used);
+      within = room c rs t at used;
+      same-length = length-after (tapeOf c t at used) (doneBy c rs t at used);
+    }
+
+pub placed : (c : Conv) (rs t : List ℕ) (at : ℕ) → Placed (runAll c rs t at) t at
+placed c rs t at = go (c .talk)
+  where
+    none : (s : Stop) → Placed (refusedRun s c t at) t at
+    none s = record { actions = 0; place = omega arith; within = omega arith; same-length = refl }
+
+    pick-run : (b : Bool) → Placed (pick b (refusedRun BadReply c t at) (runInto c rs t at 0)) t at
+    pick-run true = none BadReply
+    pick-run false = placed-run c rs t at 0
+
+    go : (u : Talk Out) → Placed (runFrom u c rs t at) t at
+    go (end r) = none AfterEnd
+    go (ask a k) = pick-run (bad rs)
 
 -- ---- stop and go on
 

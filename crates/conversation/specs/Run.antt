@@ -78,6 +78,10 @@ pub record Shown : Type 0 where
 abbrev pub shown : Port → Tape → Run Out → Shown
 shown p t r = record { stop = r .stop; port = p; talk = r .talk; tape = after t (r .done) }
 
+-- the conversation that it leaves
+abbrev pub left : Shown → Conv
+left s = record { port = s .port; talk = s .talk; actions = s .tape .actions; micros = s .tape .micros }
+
 -- the code's answer, with the transcript as it is then
 abbrev pub shownOf : Ran → List ℕ → Shown
 shownOf r t =

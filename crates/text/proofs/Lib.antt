@@ -1,6 +1,7 @@
 pub mod LineLaws
 pub mod WordLaws
 pub mod PartLaws
+pub mod HexBound
 pub mod HexLaws
 pub mod SameLaws
 pub mod PutLaws

@@ -1,0 +1,60 @@
+// Tier 2: what an operation does between its accesses, and a running operation.
+use crate::kr::Change;
+use crate::kr::KrAutoneg;
+use crate::kr::KrModify;
+use crate::kr::RestartAn;
+use crate::locked::Access;
+use crate::phy::Advertise;
+use crate::phy::Advertised;
+use crate::phy::AnLink;
+use crate::phy::Modify;
+use crate::phy::Probe;
+use crate::phy::Register;
+use crate::phy::Reset;
+use crate::phy::Scan;
+use crate::watch::Poll;
+use crate::watch::Watch;
+use crate::x552::Clock;
+use crate::x553::Activity;
+use crate::x553::Asked;
+use crate::x553::Bringup;
+
+// What is left of an operation when its access has ended, with the arguments that are still needed.
+pub enum After {
+    // acquire, release, write_reg, kr_write
+    Nothing,
+    // read_reg, kr_read, nvm_word
+    Word,
+    Veto,
+    Link,
+    // how many words of the block
+    Command(u32),
+    // take
+    Token(bool),
+    Activity(Asked, Activity),
+    Modify(Register, Modify),
+    // phy
+    Probe(u8, Probe),
+    Scan(Scan),
+    // phy, x557
+    Reset(u8, bool, Reset),
+    Abilities,
+    Advertise(Advertised, Advertise),
+    // phy
+    AnLink(u8, AnLink),
+    KrModify(Change, KrModify),
+    RestartAn(RestartAn),
+    // kr, kx
+    KrAutoneg(bool, bool, KrAutoneg),
+    // after_reset: fast
+    Clock(bool, Clock),
+    // veto
+    Bringup(bool, Bringup),
+    Poll(Watch, Poll),
+}
+
+// A running operation: its access, and what comes after.
+pub struct Op {
+    pub access: Access,
+    pub after: After,
+}

@@ -1,0 +1,14 @@
+// The places where an operation can be suspended, of the whole port: types only, so that the compiler counts them all at once.
+// A type may have 1000 fields by unfolding, and a child held in two variants counts twice.
+pub mod after;
+pub mod conversation;
+pub mod hostif;
+pub mod iosf;
+pub mod kr;
+pub mod locked;
+pub mod mdio;
+pub mod phy;
+pub mod sync;
+pub mod watch;
+pub mod x552;
+pub mod x553;

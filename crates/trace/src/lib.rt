@@ -1,0 +1,7 @@
+// The tracer's lines: what is read, and what is printed.
+pub mod lines;
+pub mod listing;
+pub mod operation;
+pub mod port;
+pub mod reply;
+pub mod turn;
