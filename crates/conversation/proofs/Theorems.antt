@@ -9,14 +9,15 @@ use borrow.Author.Tests.{lt-ltb, le-ltb}
 use lib.Dec.{ltb}
 use lib.ListN.{length, take, drop, length-append}
 use lib.Seq.{drop-drop, drop-append-le, sets, sets-eq, take-at, drop-at, slice, slice-empty, length-take-le}
+use Rattle.hardware.specs.Bound.{waited}
 use Rattle.hardware.specs.Talk.{Talk, ask, end, pick}
 use Rattle.hardware.specs.declared.Action.{Action}
 use Rattle.hardware.specs.declared.Action.the-variants.{Read, Write, Wait}
 use Rattle.hardware.specs.declared.Port.{Port}
 use Rattle.hardware.specs.declared.Reply.{Reply}
 use Rattle.hardware.specs.declared.Reply.the-variants as reply
-use Rattle.conversation.specs.Act.{uses, waited, words, replyOf, replyFor, usedBy, waitedBy, wordsOf}
-use Rattle.conversation.specs.Bound.{Ends, Within, at-end, at-ask}
+use Rattle.conversation.specs.Act.{uses, words, replyOf, replyFor, usedBy, waitedBy, wordsOf}
+use Rattle.hardware.specs.Bound.{Ends, Within, at-end, at-ask}
 use Rattle.conversation.specs.Conversation.{Conv, Out, begun, gone, stepOn, stepTalk}
 use Rattle.conversation.specs.Run.{Run, stopped, before, runTalk, joined, Tape, onTape, after, tapeOf, Shown, shown, left, runInto, bad, refusedRun, runFrom, runAll}
 use Rattle.conversation.specs.declared.conversation.Stop.{Stop}

@@ -3,6 +3,7 @@ use Prim.Native.Nat.{ℕ, _+_}
 use mathlib.Core.List.{List, [], _∷_, _++_}
 use lib.Dec.{eqb}
 use lib.ListN.{getD}
+use Rattle.hardware.specs.Bound.{waited}
 use Rattle.hardware.specs.Talk.{pick}
 use Rattle.hardware.specs.declared.Action.{Action}
 use Rattle.hardware.specs.declared.Action.the-variants.{Read, Write, Wait}
@@ -14,12 +15,6 @@ abbrev pub uses : Action → ℕ
 uses (Read reg) = 2
 uses (Write reg v) = 2
 uses (Wait micros) = 0
-
--- the microseconds that it waits
-abbrev pub waited : Action → ℕ
-waited (Read reg) = 0
-waited (Write reg v) = 0
-waited (Wait micros) = micros
 
 -- its three words in the transcript
 abbrev pub kind : Action → ℕ

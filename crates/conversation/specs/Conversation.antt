@@ -4,6 +4,7 @@ use mathlib.Core.Bool.{Bool}
 use mathlib.Core.List.{List, [], _++_}
 use lib.Dec.{eqb, ltb}
 use lib.ListN.{length, drop, replicate}
+use Rattle.hardware.specs.Bound.{waited}
 use Rattle.hardware.specs.Talk.{Talk, ask, end, Res, ok, err, pick, checked, isClear, andThen, orStop}
 use Rattle.hardware.specs.Talk as call
 use Rattle.hardware.specs.Block.{Blk, keep, fail}
@@ -19,7 +20,7 @@ use Rattle.answers.specs.declared.Value.the-variants.{Flag, Link}
 use Rattle.answers.specs.declared.Answer.{Answer}
 use Rattle.answers.specs.declared.Answer.the-variants as answer
 use Rattle.reference.specs.Hardware.{veto, vetoed, link, linked}
-use Rattle.conversation.specs.Act.{uses, waited, replyOf}
+use Rattle.conversation.specs.Act.{uses, replyOf}
 use Rattle.conversation.specs.declared.operation.Operation.{Operation}
 use Rattle.conversation.specs.declared.operation.Operation.the-variants as operationv
 use Rattle.conversation.specs.declared.operation.Op.{Op}

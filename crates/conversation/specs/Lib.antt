@@ -1,4 +1,3 @@
 pub mod Act
 pub mod Conversation
 pub mod Run
-pub mod Bound

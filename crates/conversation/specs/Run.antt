@@ -5,11 +5,12 @@ use mathlib.Core.List.{List, [], _∷_, _++_}
 use lib.Dec.{ltb}
 use lib.ListN.{length, drop}
 use lib.Seq.{sets}
+use Rattle.hardware.specs.Bound.{waited}
 use Rattle.hardware.specs.Talk.{Talk, ask, end, pick}
 use Rattle.hardware.specs.declared.Action.{Action}
 use Rattle.hardware.specs.declared.Reply.{Reply}
 use Rattle.hardware.specs.declared.Port.{Port}
-use Rattle.conversation.specs.Act.{uses, waited, words, replyFor, usedBy}
+use Rattle.conversation.specs.Act.{uses, words, replyFor, usedBy}
 use Rattle.conversation.specs.Conversation.{Conv, Out, convOf}
 use Rattle.conversation.specs.declared.conversation.Stop.{Stop}
 use Rattle.conversation.specs.declared.conversation.Stop.the-variants.{Done, AfterEnd, BadReply, NoReply, NoRoom}

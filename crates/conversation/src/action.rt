@@ -2,7 +2,8 @@
 use hardware::Action;
 use hardware::Reply;
 ghost use mathlib.Core.Path.{_≡_};
-ghost use Rattle.conversation.specs.Act.{uses, waited, kind, register, value, replyOf};
+ghost use Rattle.hardware.specs.Bound.{waited};
+ghost use Rattle.conversation.specs.Act.{uses, kind, register, value, replyOf};
 
 // Reply words that it uses in a script: a wait none, a read or a write two.
 pub fn uses_of(a: Action) -> usize

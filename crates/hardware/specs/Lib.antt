@@ -4,3 +4,4 @@ pub mod Told
 pub mod Block
 pub mod Numbers
 pub mod Refusal
+pub mod Bound

@@ -1,10 +1,16 @@
 -- That a talk ends, and how long it is at the most
 use Prim.Native.Nat.{ℕ, zero, suc, _+_, _≤_}
 use mathlib.Core.Path.{_≡_}
 use Rattle.hardware.specs.Talk.{Talk, ask, end}
 use Rattle.hardware.specs.declared.Action.{Action}
+use Rattle.hardware.specs.declared.Action.the-variants.{Read, Write, Wait}
 use Rattle.hardware.specs.declared.Reply.{Reply}
-use Rattle.conversation.specs.Act.{waited}
+
+-- the microseconds that an action waits
+abbrev pub waited : Action → ℕ
+waited (Read reg) = 0
+waited (Write reg v) = 0
+waited (Wait micros) = micros
 
 -- one reply further; an ended talk stays
 abbrev pub further : {A : Type 0} → Talk A → Reply → Talk A
