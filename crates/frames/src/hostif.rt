@@ -1,6 +1,6 @@
 // Tier 1, hostif.rs: an exchange with the firmware. The block's words stand beside, in the conversation.
-use crate::sync::Sync;
 use hardware::Word;
+use sync::sync::Sync;
 
 // The first half of command's and of nvm_word's closure: FWSTS, HICR, the block's words, HICR.C, the wait for the firmware.
 pub enum Post {

@@ -8,7 +8,6 @@ pub mod kr;
 pub mod locked;
 pub mod mdio;
 pub mod phy;
-pub mod sync;
 pub mod watch;
 pub mod x552;
 pub mod x553;

@@ -5,9 +5,9 @@ use crate::iosf::KrRead;
 use crate::iosf::KrWrite;
 use crate::mdio::MdioRead;
 use crate::mdio::MdioWrite;
-use crate::sync::Sync;
 use hardware::Unit;
 use hardware::Word;
+use sync::sync::Sync;
 
 // What a locked access is for: the arguments of the Rust function.
 pub enum Held {

@@ -5,3 +5,4 @@ pub mod Block
 pub mod Numbers
 pub mod Refusal
 pub mod Bound
+pub mod Regs

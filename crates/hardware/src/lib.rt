@@ -3,6 +3,7 @@
 ghost use mathlib.Core.Path.{_≡_};
 ghost use Rattle.hardware.specs.Talk.{checked, raw, done};
 ghost use Rattle.hardware.specs.Refusal.{isFiber, refusal};
+ghost use Rattle.hardware.specs.Regs.{regs};
 ghost use Rattle.hardware.specs.Told.{unitOf, wordOf};
 
 // The two families of document 01.
@@ -64,6 +65,12 @@ pub enum Error {
     Block,
 }
 
+// sync.rs's `regs`: SWSM and SW_FW_SYNC of a family.
+pub struct Regs {
+    pub swsm: u32,
+    pub sync: u32,
+}
+
 // R<()>
 pub enum Unit {
     Ok,
@@ -87,6 +94,23 @@ impl Port {
     pub const LINKS: u32 = 0x42a4;
 
     pub const MMNGC: u32 = 0x42d0;
+}
+
+impl Regs {
+    pub fn of(family: Family) -> Regs
+        ensures { λ r. ⌜ regs family ≡ r ⌝ }
+    {
+        match family {
+            Family::X552 => Regs {
+                swsm: 0x10140,
+                sync: 0x10160,
+            },
+            Family::X553 => Regs {
+                swsm: 0x15f70,
+                sync: 0x15f78,
+            },
+        }
+    }
 }
 
 impl Port {

@@ -1,1 +1,9 @@
 pub mod Hardware
+pub mod Sync
+pub mod Hostif
+pub mod Acquire
+pub mod Mdio
+pub mod X552
+pub mod X553
+pub mod Watch
+pub mod Operations

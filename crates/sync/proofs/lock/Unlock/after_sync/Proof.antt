@@ -1,0 +1,17 @@
+use borrow.Author.Needs.{needs}
+use Rattle.sync.proofs.lock.Unlock.after_sync.Statement.{statement}
+use Rattle.sync.proofs.lock.Unlock.after_sync.Tie as tie
+
+pub after-sync-spec : {M : Type 1} → statement M
+after-sync-spec =
+    tie.close
+    (tie.spec
+    (λ c. search needs)
+    (λ c. search needs)
+    (λ c. search needs)
+    (λ c κs. search needs)
+    (λ c κs. search needs)
+    (λ c. search needs)
+    (λ c. simp (c .before .step .given .1))
+    (λ c. simp (c .before .before .before .before .before .step2 .given .1, c .before .before .enum-told .given .1, c .before .start .ensures, c .after-smbi .ensures))
+    (λ c. simp (c .before .before .before .before .step2 .given .1, c .before .r .given .1)))

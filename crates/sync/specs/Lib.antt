@@ -1,0 +1,3 @@
+pub mod Lock
+pub mod Bits
+pub mod Sync

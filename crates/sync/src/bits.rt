@@ -1,0 +1,388 @@
+// `acquire_bits`, `release_bits` and `set_mux` of sync.rs, each suspended at an action.
+use crate::lock::Clear;
+use crate::lock::ClearStep;
+use crate::lock::Lock;
+use crate::lock::LockStep;
+use crate::lock::Unlock;
+use crate::lock::UnlockStep;
+use hardware::Action;
+use hardware::Error;
+use hardware::Port;
+use hardware::Regs;
+use hardware::Reply;
+use hardware::Unit;
+use hardware::Word;
+use words::semaphore::Bits;
+ghost use mathlib.Core.Path.{_≡_};
+ghost use mathlib.Core.Bool.{true, false};
+ghost use Rattle.hardware.specs.Told.{wordOf, unitOf};
+ghost use Rattle.reference.specs.Sync.{setMux, acquireBitsTimes, releaseBitsLocked, releaseBitsWith};
+ghost use Rattle.sync.specs.Lock.{toldClear, toldLock, toldUnlock};
+ghost use Rattle.sync.specs.Bits.{
+  resumeMux,
+  toldMux,
+  muxRead,
+  resumeAcquire,
+  toldAcquire,
+  acquireAfterLock,
+  acquireRead,
+  acquireEnded,
+  acquireEnding,
+  acquireHeld,
+  resumeRelease,
+  toldRelease,
+  releaseAfterMux,
+  releaseAfterLock,
+  releaseAfterClear,
+  releaseAfterUnlock,
+  releaseSettle,
+};
+
+// set_mux
+pub enum SetMux {
+    Reading,
+    Writing,
+    Flushing,
+}
+
+pub enum SetMuxStep {
+    Ask(Action, SetMux),
+    Done(Unit),
+}
+
+impl SetMux {
+    pub fn start(on: bool) -> SetMuxStep
+        ensures { λ r. ⌜ toldMux on r ≡ setMux on ⌝ }
+    {
+        SetMuxStep::Ask(Action::Read(Port::ESDP), SetMux::Reading)
+    }
+
+    fn read(on: bool, word: Word) -> SetMuxStep
+        ensures { λ r. ⌜ toldMux on r ≡ muxRead on (wordOf word) ⌝ }
+    {
+        match word {
+            Word::Err(e) => SetMuxStep::Done(Unit::Err(e)),
+            Word::Ok(esdp) => {
+                if on {
+                    SetMuxStep::Ask(Action::Write(Port::ESDP, esdp | 2), SetMux::Writing)
+                } else {
+                    SetMuxStep::Ask(Action::Write(Port::ESDP, esdp & !2), SetMux::Writing)
+                }
+            }
+        }
+    }
+
+    pub fn next(self, on: bool, reply: Reply) -> SetMuxStep
+        ensures { λ r. ⌜ toldMux on r ≡ resumeMux on self reply ⌝ }
+    {
+        match self {
+            SetMux::Reading => SetMux::read(on, reply.checked()),
+            SetMux::Writing => match reply.done() {
+                Unit::Err(e) => SetMuxStep::Done(Unit::Err(e)),
+                Unit::Ok => SetMuxStep::Ask(Action::Read(Port::STATUS), SetMux::Flushing),
+            },
+            SetMux::Flushing => SetMuxStep::Done(reply.done()),
+        }
+    }
+}
+
+// acquire_bits. The first number is how many tries are left after this one.
+pub enum AcquireBits {
+    Locking(u32, Lock),
+    Reading(u32),
+    Writing,
+    // the last unlock, and what is answered if it succeeds
+    Ending(Unit, Unlock),
+    // tries left, held
+    Held(u32, u32, Unlock),
+    Waiting(u32, u32),
+    Switching(SetMux),
+}
+
+pub enum AcquireBitsStep {
+    Ask(Action, AcquireBits),
+    Done(Unit),
+}
+
+impl AcquireBits {
+    fn again(regs: Regs, want: Bits, mux: bool, left: u32, held: u32) -> AcquireBitsStep
+        ensures { λ r. ⌜ toldAcquire regs want mux r ≡ acquireBitsTimes regs want mux left held ⌝ }
+    {
+        if left == 0 {
+            AcquireBitsStep::Done(Unit::Err(Error::Semaphore { held }))
+        } else {
+            AcquireBits::after_lock(regs, want, mux, left - 1, Lock::start(regs))
+        }
+    }
+
+    fn after_lock(regs: Regs, want: Bits, mux: bool, left: u32, step: LockStep) -> AcquireBitsStep
+        ensures { λ r. ⌜ toldAcquire regs want mux r ≡ acquireAfterLock regs want mux left (toldLock regs step) ⌝ }
+    {
+        match step {
+            LockStep::Ask(a, s) => AcquireBitsStep::Ask(a, AcquireBits::Locking(left, s)),
+            LockStep::Done(r) => match r {
+                Unit::Ok => AcquireBitsStep::Ask(
+                    Action::Read(regs.sync),
+                    AcquireBits::Reading(left),
+                ),
+                Unit::Err(e) => AcquireBitsStep::Done(Unit::Err(e)),
+            },
+        }
+    }
+
+    fn read(regs: Regs, want: Bits, mux: bool, left: u32, word: Word) -> AcquireBitsStep
+        ensures { λ r. ⌜ toldAcquire regs want mux r ≡ acquireRead regs want mux left (wordOf word) ⌝ }
+    {
+        match word {
+            Word::Err(e) => AcquireBits::ending(regs, want, mux, Unit::Err(e), Unlock::start(regs)),
+            Word::Ok(value) => {
+                let held = value & (want.sw | want.fw | want.hw);
+                if held == 0 {
+                    AcquireBitsStep::Ask(
+                        Action::Write(regs.sync, value | want.sw),
+                        AcquireBits::Writing,
+                    )
+                } else {
+                    AcquireBits::held(regs, want, mux, left, held, Unlock::start(regs))
+                }
+            }
+        }
+    }
+
+    // The bits are written, or the read failed.
+    fn ended(regs: Regs, want: Bits, mux: bool, result: Unit) -> AcquireBitsStep
+        ensures { λ r. ⌜ toldAcquire regs want mux r ≡ acquireEnded mux (unitOf result) ⌝ }
+    {
+        match result {
+            Unit::Err(e) => AcquireBitsStep::Done(Unit::Err(e)),
+            Unit::Ok => {
+                if mux {
+                    AcquireBits::after_mux(regs, want, mux, SetMux::start(true))
+                } else {
+                    AcquireBitsStep::Done(Unit::Ok)
+                }
+            }
+        }
+    }
+
+    fn after_mux(regs: Regs, want: Bits, mux: bool, step: SetMuxStep) -> AcquireBitsStep
+        ensures { λ r. ⌜ toldAcquire regs want mux r ≡ toldMux true step ⌝ }
+    {
+        match step {
+            SetMuxStep::Ask(a, s) => AcquireBitsStep::Ask(a, AcquireBits::Switching(s)),
+            SetMuxStep::Done(r) => AcquireBitsStep::Done(r),
+        }
+    }
+
+    // Unlock, then go on with `result`; an error of the unlock comes first.
+    fn ending(regs: Regs, want: Bits, mux: bool, result: Unit, step: UnlockStep) -> AcquireBitsStep
+        ensures { λ r. ⌜ toldAcquire regs want mux r ≡ acquireEnding mux (unitOf result) (toldUnlock regs step) ⌝ }
+    {
+        match step {
+            UnlockStep::Ask(a, s) => AcquireBitsStep::Ask(a, AcquireBits::Ending(result, s)),
+            UnlockStep::Done(r) => match r {
+                Unit::Ok => AcquireBits::ended(regs, want, mux, result),
+                Unit::Err(e) => AcquireBitsStep::Done(Unit::Err(e)),
+            },
+        }
+    }
+
+    fn held(
+        regs: Regs,
+        want: Bits,
+        mux: bool,
+        left: u32,
+        held: u32,
+        step: UnlockStep,
+    ) -> AcquireBitsStep
+        ensures { λ r. ⌜ toldAcquire regs want mux r ≡ acquireHeld regs want mux left held (toldUnlock regs step) ⌝ }
+    {
+        match step {
+            UnlockStep::Ask(a, s) => AcquireBitsStep::Ask(a, AcquireBits::Held(left, held, s)),
+            UnlockStep::Done(r) => match r {
+                Unit::Ok => AcquireBitsStep::Ask(
+                    Action::Wait(5000),
+                    AcquireBits::Waiting(left, held),
+                ),
+                Unit::Err(e) => AcquireBitsStep::Done(Unit::Err(e)),
+            },
+        }
+    }
+
+    pub fn start(regs: Regs, want: Bits, mux: bool) -> AcquireBitsStep
+        ensures { λ r. ⌜ toldAcquire regs want mux r ≡ acquireBitsTimes regs want mux 1000 0 ⌝ }
+    {
+        AcquireBits::again(regs, want, mux, 1000, 0)
+    }
+
+    pub fn next(self, regs: Regs, want: Bits, mux: bool, reply: Reply) -> AcquireBitsStep
+        ensures { λ r. ⌜ toldAcquire regs want mux r ≡ resumeAcquire regs want mux self reply ⌝ }
+    {
+        match self {
+            AcquireBits::Locking(left, s) => AcquireBits::after_lock(
+                regs,
+                want,
+                mux,
+                left,
+                s.next(regs, reply),
+            ),
+            AcquireBits::Reading(left) => AcquireBits::read(regs, want, mux, left, reply.checked()),
+            AcquireBits::Writing => AcquireBits::ending(
+                regs,
+                want,
+                mux,
+                reply.done(),
+                Unlock::start(regs),
+            ),
+            AcquireBits::Ending(result, s) => AcquireBits::ending(
+                regs,
+                want,
+                mux,
+                result,
+                s.next(regs, reply),
+            ),
+            AcquireBits::Held(left, held, s) => AcquireBits::held(
+                regs,
+                want,
+                mux,
+                left,
+                held,
+                s.next(regs, reply),
+            ),
+            AcquireBits::Waiting(left, held) => AcquireBits::again(regs, want, mux, left, held),
+            AcquireBits::Switching(s) => AcquireBits::after_mux(
+                regs,
+                want,
+                mux,
+                s.next(true, reply),
+            ),
+        }
+    }
+}
+
+// release_bits
+pub enum ReleaseBits {
+    Switching(SetMux),
+    Locking(Lock),
+    Clearing(Clear),
+    // with what clearing the bits gave
+    Unlocking(Unit, Unlock),
+    Waiting,
+}
+
+pub enum ReleaseBitsStep {
+    Ask(Action, ReleaseBits),
+    Done(Unit),
+}
+
+// `sw` are the bits to clear, `micros` the wait after them.
+impl ReleaseBits {
+    fn after_mux(regs: Regs, sw: u32, micros: u32, step: SetMuxStep) -> ReleaseBitsStep
+        ensures { λ r. ⌜ toldRelease regs sw micros r ≡ releaseAfterMux regs sw micros (toldMux false step) ⌝ }
+    {
+        match step {
+            SetMuxStep::Ask(a, s) => ReleaseBitsStep::Ask(a, ReleaseBits::Switching(s)),
+            SetMuxStep::Done(r) => match r {
+                Unit::Ok => ReleaseBits::after_lock(regs, sw, micros, Lock::start(regs)),
+                Unit::Err(e) => ReleaseBitsStep::Done(Unit::Err(e)),
+            },
+        }
+    }
+
+    fn after_lock(regs: Regs, sw: u32, micros: u32, step: LockStep) -> ReleaseBitsStep
+        ensures { λ r. ⌜ toldRelease regs sw micros r ≡ releaseAfterLock regs sw micros (toldLock regs step) ⌝ }
+    {
+        match step {
+            LockStep::Ask(a, s) => ReleaseBitsStep::Ask(a, ReleaseBits::Locking(s)),
+            LockStep::Done(r) => match r {
+                Unit::Ok => ReleaseBits::after_clear(regs, sw, micros, Clear::start(regs.sync, sw)),
+                Unit::Err(e) => ReleaseBitsStep::Done(Unit::Err(e)),
+            },
+        }
+    }
+
+    fn after_clear(regs: Regs, sw: u32, micros: u32, step: ClearStep) -> ReleaseBitsStep
+        ensures { λ r. ⌜ toldRelease regs sw micros r ≡ releaseAfterClear regs micros (toldClear (regs .sync) sw step) ⌝ }
+    {
+        match step {
+            ClearStep::Ask(a, s) => ReleaseBitsStep::Ask(a, ReleaseBits::Clearing(s)),
+            ClearStep::Done(cleared) => ReleaseBits::after_unlock(
+                regs,
+                sw,
+                micros,
+                cleared,
+                Unlock::start(regs),
+            ),
+        }
+    }
+
+    fn after_unlock(
+        regs: Regs,
+        sw: u32,
+        micros: u32,
+        cleared: Unit,
+        step: UnlockStep,
+    ) -> ReleaseBitsStep
+        ensures { λ r. ⌜ toldRelease regs sw micros r ≡ releaseAfterUnlock micros (unitOf cleared) (toldUnlock regs step) ⌝ }
+    {
+        match step {
+            UnlockStep::Ask(a, s) => ReleaseBitsStep::Ask(a, ReleaseBits::Unlocking(cleared, s)),
+            UnlockStep::Done(r) => match r {
+                Unit::Ok => ReleaseBits::settle(regs, sw, micros, cleared),
+                Unit::Err(e) => ReleaseBitsStep::Done(Unit::Err(e)),
+            },
+        }
+    }
+
+    fn settle(regs: Regs, sw: u32, micros: u32, cleared: Unit) -> ReleaseBitsStep
+        ensures { λ r. ⌜ toldRelease regs sw micros r ≡ releaseSettle micros (unitOf cleared) ⌝ }
+    {
+        match cleared {
+            Unit::Err(e) => ReleaseBitsStep::Done(Unit::Err(e)),
+            Unit::Ok => ReleaseBitsStep::Ask(Action::Wait(micros), ReleaseBits::Waiting),
+        }
+    }
+
+    pub fn start(regs: Regs, sw: u32, micros: u32, mux: bool) -> ReleaseBitsStep
+        ensures { λ r. ⌜ toldRelease regs sw micros r ≡ releaseBitsWith regs sw micros mux ⌝ }
+    {
+        if mux {
+            ReleaseBits::after_mux(regs, sw, micros, SetMux::start(false))
+        } else {
+            ReleaseBits::after_lock(regs, sw, micros, Lock::start(regs))
+        }
+    }
+
+    pub fn next(self, regs: Regs, sw: u32, micros: u32, reply: Reply) -> ReleaseBitsStep
+        ensures { λ r. ⌜ toldRelease regs sw micros r ≡ resumeRelease regs sw micros self reply ⌝ }
+    {
+        match self {
+            ReleaseBits::Switching(s) => ReleaseBits::after_mux(
+                regs,
+                sw,
+                micros,
+                s.next(false, reply),
+            ),
+            ReleaseBits::Locking(s) => ReleaseBits::after_lock(
+                regs,
+                sw,
+                micros,
+                s.next(regs, reply),
+            ),
+            ReleaseBits::Clearing(s) => ReleaseBits::after_clear(
+                regs,
+                sw,
+                micros,
+                s.next(regs.sync, sw, reply),
+            ),
+            ReleaseBits::Unlocking(cleared, s) => ReleaseBits::after_unlock(
+                regs,
+                sw,
+                micros,
+                cleared,
+                s.next(regs, reply),
+            ),
+            ReleaseBits::Waiting => ReleaseBitsStep::Done(Unit::Ok),
+        }
+    }
+}

@@ -1,0 +1,109 @@
+// acquire_bits or release_bits of a port, with the register pair and the mux that it began with: no step looks them up again.
+use crate::bits::AcquireBits;
+use crate::bits::AcquireBitsStep;
+use crate::bits::ReleaseBits;
+use crate::bits::ReleaseBitsStep;
+use hardware::Action;
+use hardware::Family;
+use hardware::Port;
+use hardware::Regs;
+use hardware::Reply;
+use hardware::Unit;
+use words::semaphore::Bits;
+ghost use mathlib.Core.Path.{_≡_};
+ghost use Rattle.words.specs.Semaphore.{bits};
+ghost use Rattle.reference.specs.Sync.{mux, settle, acquireBits, releaseBits};
+ghost use Rattle.sync.specs.Bits.{toldAcquire, toldRelease};
+ghost use Rattle.sync.specs.Sync.{resumeSync, toldSync};
+
+pub enum Sync {
+    Take(Regs, bool, AcquireBits),
+    Give(Regs, ReleaseBits),
+}
+
+pub enum SyncStep {
+    Ask(Action, Sync),
+    Done(Unit),
+}
+
+// mux: the X552's port 1 reaches the I2C segment through a mux.
+fn mux(port: Port, mask: u32) -> bool
+    ensures { λ r. ⌜ mux port mask ≡ r ⌝ }
+{
+    let family = port.family;
+    match family {
+        Family::X553 => false,
+        Family::X552 => {
+            if port.lan == 1 {
+                mask & Bits::I2C != 0
+            } else {
+                false
+            }
+        }
+    }
+}
+
+// How long to wait after a release: PHY0, PHY1 and SW_MNG settle sooner.
+fn settle(mask: u32) -> u32
+    ensures { λ r. ⌜ settle mask ≡ r ⌝ }
+{
+    if mask & 0x406 == 0 { 2000 } else { 10 }
+}
+
+impl Sync {
+    fn taking(regs: Regs, on: bool, mask: u32, step: AcquireBitsStep) -> SyncStep
+        ensures { λ r. ⌜ toldSync mask r ≡ toldAcquire regs (bits mask) on step ⌝ }
+    {
+        match step {
+            AcquireBitsStep::Ask(a, s) => SyncStep::Ask(a, Sync::Take(regs, on, s)),
+            AcquireBitsStep::Done(r) => SyncStep::Done(r),
+        }
+    }
+
+    fn giving(regs: Regs, mask: u32, step: ReleaseBitsStep) -> SyncStep
+        ensures { λ r. ⌜ toldSync mask r ≡ toldRelease regs (bits mask .sw) (settle mask) step ⌝ }
+    {
+        match step {
+            ReleaseBitsStep::Ask(a, s) => SyncStep::Ask(a, Sync::Give(regs, s)),
+            ReleaseBitsStep::Done(r) => SyncStep::Done(r),
+        }
+    }
+
+    // acquire_bits
+    pub fn take(port: Port, mask: u32) -> SyncStep
+        ensures { λ r. ⌜ toldSync mask r ≡ acquireBits port mask ⌝ }
+    {
+        let family = port.family;
+        let regs = Regs::of(family);
+        let on = mux(port, mask);
+        Sync::taking(regs, on, mask, AcquireBits::start(regs, Bits::of(mask), on))
+    }
+
+    // release_bits
+    pub fn give(port: Port, mask: u32) -> SyncStep
+        ensures { λ r. ⌜ toldSync mask r ≡ releaseBits port mask ⌝ }
+    {
+        let family = port.family;
+        let regs = Regs::of(family);
+        let want = Bits::of(mask);
+        Sync::giving(
+            regs,
+            mask,
+            ReleaseBits::start(regs, want.sw, settle(mask), mux(port, mask)),
+        )
+    }
+
+    pub fn next(self, mask: u32, reply: Reply) -> SyncStep
+        ensures { λ r. ⌜ toldSync mask r ≡ resumeSync mask self reply ⌝ }
+    {
+        let want = Bits::of(mask);
+        match self {
+            Sync::Take(regs, on, s) => Sync::taking(regs, on, mask, s.next(regs, want, on, reply)),
+            Sync::Give(regs, s) => Sync::giving(
+                regs,
+                mask,
+                s.next(regs, want.sw, settle(mask), reply),
+            ),
+        }
+    }
+}
