@@ -10,7 +10,11 @@ use lib.Dec.{ltb}
 use lib.ListN.{length, take, drop, length-append}
 use lib.Seq.{drop-drop, drop-append-le, sets, sets-eq, take-at, drop-at, slice, slice-empty, length-take-le}
 use Rattle.hardware.specs.Bound.{waited}
-use Rattle.hardware.specs.Talk.{Talk, ask, end, pick}
+use Rattle.hardware.specs.Talk.{Talk, ask, end, pick, andThen, _>>=_, return}
+use Rattle.hardware.proofs.Laws.{then-assoc}
+use Rattle.answers.specs.declared.Value.the-variants.{Flag, Link}
+use Rattle.reference.specs.Hardware.{veto, link}
+use Rattle.reference.specs.Operations as reference
 use Rattle.hardware.specs.declared.Action.{Action}
 use Rattle.hardware.specs.declared.Action.the-variants.{Read, Write, Wait}
 use Rattle.hardware.specs.declared.Port.{Port}
@@ -18,11 +22,12 @@ use Rattle.hardware.specs.declared.Reply.{Reply}
 use Rattle.hardware.specs.declared.Reply.the-variants as reply
 use Rattle.conversation.specs.Act.{uses, words, replyOf, replyFor, usedBy, waitedBy, wordsOf}
 use Rattle.hardware.specs.Bound.{Ends, Within, at-end, at-ask}
-use Rattle.conversation.specs.Conversation.{Conv, Out, begun, gone, stepOn, stepTalk}
+use Rattle.conversation.specs.Conversation.{Conv, Out, opOf, operation, begun, gone, stepOn, stepTalk}
 use Rattle.conversation.specs.Run.{Run, stopped, before, runTalk, joined, Tape, onTape, after, tapeOf, Shown, shown, left, runInto, bad, refusedRun, runFrom, runAll}
 use Rattle.conversation.specs.declared.conversation.Stop.{Stop}
 use Rattle.conversation.specs.declared.conversation.Stop.the-variants.{AfterEnd, BadReply, NoRoom, NoReply}
 use Rattle.conversation.specs.declared.operation.Operation.{Operation}
+use Rattle.conversation.specs.declared.operation.Operation.the-variants as operationv
 use Rattle.conversation.proofs.Bounds.{within-begun}
 use Rattle.conversation.proofs.Laws.{all-run}
 use Rattle.conversation.proofs.Runs.{
@@ -334,3 +339,12 @@ module _ (c : Conv) (kind value : ℕ) (t : List ℕ) (at : ℕ) (k : Reply → 
       ap (λ (x : Talk Out). stepOn x c kind value .to) e
       ∙ step-one a h
       ∙ sym (ap₂ (λ (x : Talk Out) (n : ℕ). leaves (runTalk x (kind ∷ value ∷ []) n)) e room)
+
+-- ---- what is begun is the reference's operation, with the host block beside
+
+pub is-reference : (port : Port) (what : Operation) (b : List ℕ)
+    → operation port what b ≡ andThen (reference.operation port (opOf what)) (λ p. end (p .0, b))
+is-reference port operationv.Veto b =
+    sym (then-assoc (veto >>= (λ x. return (Flag x))) (λ r. end (r, [])) (λ p. end (p .0, b)))
+is-reference port operationv.Link b =
+    sym (then-assoc (link (port .family) >>= (λ x. return (Link x))) (λ r. end (r, [])) (λ p. end (p .0, b)))

@@ -19,6 +19,7 @@ use Rattle.answers.specs.declared.Value.{Value}
 use Rattle.answers.specs.declared.Value.the-variants.{Flag, Link}
 use Rattle.answers.specs.declared.Answer.{Answer}
 use Rattle.answers.specs.declared.Answer.the-variants as answer
+use Rattle.reference.specs.Operations as ops
 use Rattle.reference.specs.Hardware.{veto, vetoed, link, linked}
 use Rattle.conversation.specs.Act.{uses, replyOf}
 use Rattle.conversation.specs.declared.operation.Operation.{Operation}
@@ -56,6 +57,11 @@ asLink t = keep (call._>>=_ t (λ l. call.return (Link l)))
 abbrev pub operation : Port → Operation → List ℕ → Talk Out
 operation port operationv.Veto = asFlag veto
 operation port operationv.Link = asLink (link (port .family))
+
+-- the operation of the reference that it is
+abbrev pub opOf : Operation → ops.Op
+opOf operationv.Veto = ops.Veto
+opOf operationv.Link = ops.Link
 
 -- what a running operation says, from the reply that it waits for
 abbrev pub resumeOp : Port → Op → Reply → List ℕ → Talk Out
