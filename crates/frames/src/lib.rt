@@ -2,11 +2,11 @@
 // A type may have 1000 fields by unfolding, and a child held in two variants counts twice.
 pub mod after;
 pub mod conversation;
-pub mod hostif;
 pub mod iosf;
 pub mod kr;
 pub mod locked;
 pub mod mdio;
+pub mod nvm;
 pub mod phy;
 pub mod watch;
 pub mod x552;

@@ -1,13 +1,12 @@
 // Tier 1: one access, a plain action or a body under its lock.
-use crate::hostif::Command;
-use crate::hostif::Nvm;
 use crate::iosf::KrRead;
 use crate::iosf::KrWrite;
 use crate::mdio::MdioRead;
 use crate::mdio::MdioWrite;
-use hardware::Unit;
+use crate::nvm::Nvm;
+use access::hold::Hold;
 use hardware::Word;
-use sync::sync::Sync;
+use hostif::exchange::Exchange;
 
 // What a locked access is for: the arguments of the Rust function.
 pub enum Held {
@@ -36,8 +35,9 @@ pub enum Job {
     Under(Held),
 }
 
-// locked's closure. That of `command` is in `Command`, with the lock of its own.
+// locked's closure. `command` is locked with SW_MNG alone.
 pub enum Body {
+    Exchange(Exchange),
     KrRead(KrRead),
     KrWrite(KrWrite),
     MdioRead(MdioRead),
@@ -45,33 +45,17 @@ pub enum Body {
     Nvm(Nvm),
 }
 
-// Where acquire or release runs acquire_bits or release_bits.
-pub enum BitsPlace {
-    // acquire: tries of the token left after this one
-    Taking(u32),
-    // acquire: tries left, and what `token` gave, busy or an error
-    Freeing(u32, Word),
-    // release: what the closure gave, and what giving back the token gave
-    Giving(Word, Unit),
+// Where locked runs acquire or release.
+pub enum HoldPlace {
+    Acquiring,
+    // what the closure gave
+    Releasing(Word),
 }
 
-// Why `command` runs.
-pub enum HostPlace {
-    // acquire's token: tries left after this one
-    Taking(u32),
-    // release's token: what the closure gave
-    Giving(Word),
-    // the access is a command
-    Alone,
-}
-
-// locked, acquire, release.
+// locked, acquire and release.
 pub enum Locked {
-    Bits(BitsPlace, Sync),
-    Host(HostPlace, Command),
+    Hold(HoldPlace, Hold),
     Body(Body),
-    // acquire, after a busy token: tries left
-    Pausing(u32),
 }
 
 // One access. The mask stands beside `Held`, so that only the beginning looks at the family.

@@ -7,3 +7,6 @@ pub mod X552
 pub mod X553
 pub mod Watch
 pub mod Operations
+pub mod Closures
+pub mod Bounds
+pub mod Example

@@ -4,7 +4,7 @@ use mathlib.Core.Bool.{Bool}
 use mathlib.Core.List.{List, []}
 use mathlib.Core.Option.{Option}
 use lib.ListN.{length}
-use Rattle.hardware.specs.Talk.{Talk, Call, Res, ok, end, _>>=_, return}
+use Rattle.hardware.specs.Talk.{Talk, Call, Res, _>>=_, return}
 use Rattle.hardware.specs.Block.{keep}
 use Rattle.hardware.specs.Block as blk
 use Rattle.hardware.specs.declared.Family.{Family}

@@ -1,5 +1,5 @@
 -- x553.rs, with no SFP. `pause` is the wait of `iosf_idle`, in microseconds
-use Prim.Native.Nat.{ℕ, _-_}
+use Prim.Native.Nat.{ℕ}
 use mathlib.Core.Bool.{Bool, true, false, not, _||_}
 use lib.Bits.{bitAnd, bitOr}
 use lib.Dec.{eqb}

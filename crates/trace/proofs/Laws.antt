@@ -15,7 +15,7 @@ use Rattle.text.specs.declared.Span.the-variants.{Word}
 use Rattle.text.proofs.PartLaws.{hex-in, is-in}
 
 module _ (at : ℕ) (line : List ℕ) (r : Span) {start end : ℕ} (inside : Inside at line r) (e : r ≡ Word start end) where
-  place : Inside at line (Word start end)
+  pub place : Inside at line (Word start end)
   place = rw e at inside
 
   pub found-hex : (fewest most : ℕ) {x : Number} → hexPart line start end fewest most ≡ x → hexWord fewest most (slice start end line) ≡ x

@@ -1,4 +1,5 @@
 pub mod Laws
+pub mod ArgumentLaws
 pub mod LineLaws
 pub mod ListingLaws
 pub mod TurnLaws

@@ -4,3 +4,4 @@ pub mod Reply
 pub mod Listing
 pub mod Turn
 pub mod Lines
+pub mod Arguments

@@ -1,4 +1,5 @@
 // The tracer's lines: what is read, and what is printed.
+pub mod arguments;
 pub mod lines;
 pub mod listing;
 pub mod operation;

@@ -1,0 +1,17 @@
+use borrow.Author.Needs.{needs}
+use Rattle.reference.specs.Hostif.{token}
+use Rattle.access.proofs.hold.Hold.returned.Statement.{statement}
+use Rattle.access.proofs.hold.Hold.returned.Tie as tie
+
+pub returned-spec : {M : Type 1} → statement M
+unfolding token
+returned-spec =
+    tie.close
+    (tie.spec
+    (λ c. search needs)
+    (λ c. search needs)
+    (λ c. search needs)
+    (λ c. search needs)
+    (λ c. λ b. simp (c .before .step .given .1))
+    (λ c. λ b. simp (c .before .before .before .step2 .given .1, c .enum-told .given .1))
+    (λ c. λ b. simp (c .before .before .before .before .step2 .given .1, c .before .r .given .1)))

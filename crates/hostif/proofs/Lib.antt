@@ -1,0 +1,3 @@
+pub mod Fits
+pub mod Bytes
+pub mod Laws

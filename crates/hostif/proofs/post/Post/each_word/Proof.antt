@@ -1,0 +1,16 @@
+use borrow.Author.Needs.{needs}
+use Rattle.hardware.proofs.Laws.{each-more, each-none}
+use Rattle.hostif.proofs.post.Post.each_word.Statement.{statement}
+use Rattle.hostif.proofs.post.Post.each_word.Tie as tie
+
+pub each-word-spec : {M : Type 1} → statement M
+each-word-spec =
+    tie.close
+    (tie.spec
+    (λ c. search needs)
+    (λ c. search needs)
+    (λ c. search needs)
+    (λ c. search needs)
+    (λ c. search needs)
+    (λ c. simp (each-more (c .before .if1 .taken)))
+    (λ c. simp (each-none (c .if1 .left))))

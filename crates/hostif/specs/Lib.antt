@@ -1,0 +1,4 @@
+pub mod Post
+pub mod Exchange
+pub mod Command
+pub mod Token

@@ -1,0 +1,33 @@
+-- What a suspended token still says: its block is the first two words of the lent one
+use Prim.Native.Nat.{ℕ, _%_}
+use mathlib.Core.Bool.{Bool}
+use mathlib.Core.List.{List}
+use lib.ListN as list
+use Rattle.hardware.specs.Talk.{Talk, Call, Res, ok, err, ask, end, andThen, _>>=_}
+use Rattle.hardware.specs.declared.Port.{Port}
+use Rattle.hardware.specs.declared.Reply.{Reply}
+use Rattle.reference.specs.Hostif.{tokenStatus}
+use Rattle.hostif.specs.Command.{resumeCommand}
+use Rattle.hostif.specs.declared.command.Command.{Command}
+use Rattle.hostif.specs.declared.token.Flag.{Flag}
+use Rattle.hostif.specs.declared.token.Flag.the-variants as flag
+use Rattle.hostif.specs.declared.token.TokenStep.{TokenStep}
+use Rattle.hostif.specs.declared.token.TokenStep.the-variants as tokenstep
+
+abbrev pub flagOf : Flag → Res Bool
+flagOf (flag.Ok v) = ok v
+flagOf (flag.Err e) = err e
+
+-- a command's status is a byte (proofs/Bytes.antt); of any other word the lowest byte is
+abbrev pub tokenByte : Bool → Res ℕ × List ℕ → Call Bool
+tokenByte take p = end (p .0) >>= (λ status. tokenStatus take (status % 256))
+
+abbrev pub tokenAfter : Bool → Talk (Res ℕ × List ℕ) → Call Bool
+tokenAfter take t = andThen t (tokenByte take)
+
+abbrev pub resumeToken : Port → Bool → Command → List ℕ → Reply → Call Bool
+resumeToken port take s b r = tokenAfter take (resumeCommand port s (list.take 2 b) r)
+
+abbrev pub toldToken : Port → Bool → List ℕ → TokenStep → Call Bool
+toldToken port take b (tokenstep.Ask a s) = ask a (λ r. resumeToken port take s b r)
+toldToken port take b (tokenstep.Done r) = end (flagOf r)
