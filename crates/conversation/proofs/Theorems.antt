@@ -10,11 +10,7 @@ use lib.Dec.{ltb}
 use lib.ListN.{length, take, drop, length-append}
 use lib.Seq.{drop-drop, drop-append-le, sets, sets-eq, take-at, drop-at, slice, slice-empty, length-take-le}
 use Rattle.hardware.specs.Bound.{waited}
-use Rattle.hardware.specs.Talk.{Talk, ask, end, pick, andThen, _>>=_, return}
-use Rattle.hardware.proofs.Laws.{then-assoc}
-use Rattle.answers.specs.declared.Value.the-variants.{Flag, Link}
-use Rattle.reference.specs.Hardware.{veto, link}
-use Rattle.reference.specs.Operations as reference
+use Rattle.hardware.specs.Talk.{Talk, ask, end, pick}
 use Rattle.hardware.specs.declared.Action.{Action}
 use Rattle.hardware.specs.declared.Action.the-variants.{Read, Write, Wait}
 use Rattle.hardware.specs.declared.Port.{Port}
@@ -22,13 +18,12 @@ use Rattle.hardware.specs.declared.Reply.{Reply}
 use Rattle.hardware.specs.declared.Reply.the-variants as reply
 use Rattle.conversation.specs.Act.{uses, words, replyOf, replyFor, usedBy, waitedBy, wordsOf}
 use Rattle.hardware.specs.Bound.{Ends, Within, at-end, at-ask}
-use Rattle.conversation.specs.Conversation.{Conv, Out, opOf, operation, begun, gone, stepOn, stepTalk}
+use Rattle.conversation.specs.Conversation.{Conv, Out, conv, begun, gone, stepOn, stepTalk}
 use Rattle.conversation.specs.Run.{Run, stopped, before, runTalk, joined, Tape, onTape, after, tapeOf, Shown, shown, left, runInto, bad, refusedRun, runFrom, runAll}
 use Rattle.conversation.specs.declared.conversation.Stop.{Stop}
 use Rattle.conversation.specs.declared.conversation.Stop.the-variants.{AfterEnd, BadReply, NoRoom, NoReply}
 use Rattle.conversation.specs.declared.operation.Operation.{Operation}
-use Rattle.conversation.specs.declared.operation.Operation.the-variants as operationv
-use Rattle.conversation.proofs.Bounds.{within-begun}
+use Rattle.conversation.proofs.Bounds.{within-begun, fits-begun}
 use Rattle.conversation.proofs.Laws.{all-run}
 use Rattle.conversation.proofs.Runs.{
   go-on,
@@ -235,9 +230,6 @@ pub record Together (one first second : Shown) (at at₁ at₂ : ℕ) : Type 0 w
   pub words : slice at (one .tape .at) (one .tape .transcript)
       ≡ slice at₁ (first .tape .at) (first .tape .transcript) ++ slice at₂ (second .tape .at) (second .tape .transcript)
 
-abbrev conv : Port → Talk Out → ℕ → ℕ → Conv
-conv port talk actions micros = record { port = port; talk = talk; actions = actions; micros = micros }
-
 -- the counts go on from the counts alone
 same-counts : (s t : Tape) (d : List Action) → s .actions ≡ t .actions → s .micros ≡ t .micros → s .used ≡ t .used
     → (after s d .actions ≡ after t d .actions) × (after s d .micros ≡ after t d .micros) × (after s d .used ≡ after t d .used)
@@ -303,9 +295,10 @@ counts-exact port what ws rs t at =
     let c : Conv = begun port what ws in
     let d : List Action = doneBy c rs t at 0 in
     let bound = within-run (within-begun port what ws) rs (length t - at) in
+    let fits = fits-begun what in
     let actions : after (tapeOf c t at 0) d .actions ≡ (0 + length d) % 2 ^ 64 = actions-after (tapeOf c t at 0) d (omega arith) in
     let micros : after (tapeOf c t at 0) d .micros ≡ (0 + waitedBy d) % 2 ^ 64 = micros-after (tapeOf c t at 0) d (omega arith) in
-    (omega (arith, bound .0), omega (arith, bound .1))
+    (omega (arith, bound .0, fits .of-actions), omega (arith, bound .1, fits .of-micros))
 
 -- ---- a step is a run of one action
 
@@ -339,12 +332,3 @@ module _ (c : Conv) (kind value : ℕ) (t : List ℕ) (at : ℕ) (k : Reply → 
       ap (λ (x : Talk Out). stepOn x c kind value .to) e
       ∙ step-one a h
       ∙ sym (ap₂ (λ (x : Talk Out) (n : ℕ). leaves (runTalk x (kind ∷ value ∷ []) n)) e room)
-
--- ---- what is begun is the reference's operation, with the host block beside
-
-pub is-reference : (port : Port) (what : Operation) (b : List ℕ)
-    → operation port what b ≡ andThen (reference.operation port (opOf what)) (λ p. end (p .0, b))
-is-reference port operationv.Veto b =
-    sym (then-assoc (veto >>= (λ x. return (Flag x))) (λ r. end (r, [])) (λ p. end (p .0, b)))
-is-reference port operationv.Link b =
-    sym (then-assoc (link (port .family) >>= (λ x. return (Link x))) (λ r. end (r, [])) (λ p. end (p .0, b)))

@@ -15,11 +15,12 @@ ghost use mathlib.Core.Path.{_≡_};
 ghost use Prim.Native.Nat.{_≤_};
 ghost use mathlib.Core.List.{[]};
 ghost use lib.ListN.{length};
-ghost use Rattle.hardware.specs.Block.{fail};
+ghost use Rattle.hardware.specs.Talk.{end, err};
 ghost use Rattle.conversation.specs.Conversation.{
   told,
   resumeOp,
   convOf,
+  conv,
   gone,
   opening,
   padded,
@@ -85,7 +86,7 @@ fn copied(block: &[u32]) -> [u32; 16]
 impl Conversation {
     // A conversation that has ended from the start, for a call that is turned away.
     fn refused(port: Port, e: Error) -> Conversation
-        ensures { λ r. ⌜ convOf r ≡ opening port (fail e (padded [])) ⌝ }
+        ensures { λ r. ⌜ convOf r ≡ opening port (end (err e, [])) ⌝ }
     {
         let block = [0u32; 16];
         Conversation {
@@ -104,10 +105,11 @@ impl Conversation {
         match port.refusal(what.phy(), what.device(), block.len()) {
             Unit::Err(e) => Conversation::refused(port, e),
             Unit::Ok => {
-                let words = copied(block);
+                let mut words = copied(block);
+                let place = what.start(port, &mut words);
                 Conversation {
                     port,
-                    place: what.start(port),
+                    place,
                     block: words,
                     actions: 0,
                     micros: 0,
@@ -116,19 +118,36 @@ impl Conversation {
         }
     }
 
+    // Goes on from the reply, with these counts.
+    fn resumed(
+        port: Port,
+        op: Op,
+        reply: Reply,
+        block: [u32; 16],
+        actions: u64,
+        micros: u64,
+    ) -> Conversation
+        ensures { λ r. ⌜ convOf r ≡ conv port (resumeOp port op reply block) actions micros ⌝ }
+    {
+        let mut words = block;
+        let place = op.next(port, &mut words, reply);
+        Conversation {
+            port,
+            place,
+            block: words,
+            actions,
+            micros,
+        }
+    }
+
     // The action is answered, and counted. Both `step` and `run` go this way.
     pub fn answered(self, a: Action, op: Op, reply: Reply) -> Conversation
         ensures { λ r. ⌜ convOf r ≡ gone (convOf self) a (resumeOp (self .port) op reply (self .block)) ⌝ }
     {
-        let port = self.port;
         let block = self.block;
-        Conversation {
-            port,
-            place: op.next(port, reply),
-            block,
-            actions: std::num::wrapping_add_u64(self.actions, 1),
-            micros: std::num::wrapping_add_u64(self.micros, waited_of(a)),
-        }
+        let actions = std::num::wrapping_add_u64(self.actions, 1);
+        let micros = std::num::wrapping_add_u64(self.micros, waited_of(a));
+        Conversation::resumed(self.port, op, reply, block, actions, micros)
     }
 
     // One action is answered with a reply's two words.

@@ -1,28 +1,41 @@
 // What can be begun, and where a begun operation stands.
+use access::hold::Hold;
+use access::hold::HoldStep;
 use answers::Answer;
 use answers::Value;
 use hardware::Action;
 use hardware::Port;
 use hardware::Reply;
+use hardware::Unit;
 use hardware::Word;
 use words::link::Link;
 ghost use mathlib.Core.Path.{_≡_};
-ghost use Prim.Native.Nat.{ℕ};
+ghost use Prim.Native.Nat.{ℕ, _≤_};
 ghost use mathlib.Core.List.{List};
+ghost use lib.ListN.{length};
 ghost use Rattle.hardware.specs.Talk.{orStop, checked};
+ghost use Rattle.answers.specs.declared.Value.the-variants as value;
 ghost use Rattle.reference.specs.Hardware.{vetoed, linked};
-ghost use Rattle.conversation.specs.Conversation.{phyOf, deviceOf, operation, asFlag, asLink, resumeOp, told};
+ghost use Rattle.reference.specs.Operations.{answer, nothing, operation};
+ghost use Rattle.access.specs.Hold.{toldHold};
+ghost use Rattle.conversation.specs.Conversation.{phyOf, deviceOf, opOf, resumeOp, told};
 
 // What the host asks for.
 pub enum Operation {
     Veto,
     Link,
+    // mask
+    Acquire(u32),
+    // mask
+    Release(u32),
 }
 
 // A running operation, at the action that it asks for.
 pub enum Op {
     Veto,
     Link,
+    // acquire, release: the mask without TOKEN
+    Hold(u32, Hold),
 }
 
 // Where a conversation stands: at its end, or at an action that it asks for.
@@ -39,6 +52,8 @@ impl Operation {
         match self {
             Operation::Veto => 0,
             Operation::Link => 0,
+            Operation::Acquire(_) => 0,
+            Operation::Release(_) => 0,
         }
     }
 
@@ -49,22 +64,33 @@ impl Operation {
         match self {
             Operation::Veto => 0,
             Operation::Link => 0,
+            Operation::Acquire(_) => 0,
+            Operation::Release(_) => 0,
         }
     }
 
-    pub fn start(self, port: Port) -> Place
-        ensures { λ r. ⌜ ((b : List ℕ) → told port r b ≡ operation port self b) ⌝ }
+    pub fn start(self, port: Port, block: &mut [u32]) -> Place
+        requires { ⌜ 2 ≤ length (now block) ⌝ }
+        ensures { λ r. ⌜ told port r (now (block .exit)) ≡ operation port (opOf self) ⌝ }
     {
         match self {
             Operation::Veto => Place::Asks(Action::Read(Port::MMNGC), Op::Veto),
             Operation::Link => Place::Asks(Action::Read(Port::LINKS), Op::Link),
+            Operation::Acquire(mask) => {
+                let step = Hold::acquire(port, mask, block);
+                Op::held(port, mask & !Hold::TOKEN, step)
+            }
+            Operation::Release(mask) => {
+                let step = Hold::release(port, mask, block);
+                Op::held(port, mask & !Hold::TOKEN, step)
+            }
         }
     }
 }
 
 impl Op {
     fn veto(port: Port, reply: Reply) -> Place
-        ensures { λ r. ⌜ ((b : List ℕ) → told port r b ≡ asFlag (orStop vetoed (checked reply)) b) ⌝ }
+        ensures { λ r. ⌜ ((b : List ℕ) → told port r b ≡ answer value.Flag (orStop vetoed (checked reply))) ⌝ }
     {
         match reply.checked() {
             Word::Err(e) => Place::Ended(Answer::Err(e)),
@@ -73,7 +99,7 @@ impl Op {
     }
 
     fn link(port: Port, reply: Reply) -> Place
-        ensures { λ r. ⌜ ((b : List ℕ) → told port r b ≡ asLink (orStop (linked (port .family)) (checked reply)) b) ⌝ }
+        ensures { λ r. ⌜ ((b : List ℕ) → told port r b ≡ answer value.Link (orStop (linked (port .family)) (checked reply))) ⌝ }
     {
         let family = port.family;
         match reply.checked() {
@@ -82,13 +108,30 @@ impl Op {
         }
     }
 
+    fn held(port: Port, hw: u32, step: HoldStep) -> Place
+        ensures { λ r. ⌜ ((b : List ℕ) → told port r b ≡ answer nothing (toldHold port hw b step)) ⌝ }
+    {
+        match step {
+            HoldStep::Ask(a, s) => Place::Asks(a, Op::Hold(hw, s)),
+            HoldStep::Done(r) => match r {
+                Unit::Ok => Place::Ended(Answer::Ok(Value::Nothing)),
+                Unit::Err(e) => Place::Ended(Answer::Err(e)),
+            },
+        }
+    }
+
     // Goes on from the reply.
-    pub fn next(self, port: Port, reply: Reply) -> Place
-        ensures { λ r. ⌜ ((b : List ℕ) → told port r b ≡ resumeOp port self reply b) ⌝ }
+    pub fn next(self, port: Port, block: &mut [u32], reply: Reply) -> Place
+        requires { ⌜ 2 ≤ length (now block) ⌝ }
+        ensures { λ r. ⌜ told port r (now (block .exit)) ≡ resumeOp port self reply (now (block .entry)) ⌝ }
     {
         match self {
             Op::Veto => Op::veto(port, reply),
             Op::Link => Op::link(port, reply),
+            Op::Hold(hw, s) => {
+                let step = s.next(port, hw, block, reply);
+                Op::held(port, hw, step)
+            }
         }
     }
 }

@@ -26,6 +26,9 @@ enum-told c = search needs
 copied-requires : tie.Need-copied-requires
 copied-requires c κs = taken _ _ _ _ (c .before .before .refusal .ensures ∙ ap unitOf (c .enum-told .given .1)) .words
 
+slice-aggregate-start : tie.Need-slice-aggregate-start
+slice-aggregate-start c = search needs
+
 start-requires : tie.Need-start-requires
 start-requires c κs = search needs
 
@@ -33,7 +36,7 @@ returns : tie.Need-returns
 returns c = simp (c .before .before .before .before .before .before .phy .ensures, c .before .before .before .before .before .device .ensures, c .before .before .before .before .refusal .ensures, c .before .before .e .given .1, c .refused .ensures)
 
 returns-2 : tie.Need-returns-2
-returns-2 c = simp (c .before .before .before .before .before .before .phy .ensures, c .before .before .before .before .before .device .ensures, c .before .before .before .before .refusal .ensures, c .before .before .enum-told .given .1, c .before .copied .ensures, c .start .ensures)
+returns-2 c = simp (c .before .before .before .before .before .before .before .before .phy .ensures, c .before .before .before .before .before .before .before .device .ensures, c .before .before .before .before .before .before .refusal .ensures, c .before .before .before .before .enum-told .given .1, c .before .start .ensures)
 
 pub begin-spec : {M : Type 1} → statement M
 begin-spec =
@@ -46,6 +49,7 @@ begin-spec =
     refused-requires
     enum-told
     copied-requires
+    slice-aggregate-start
     start-requires
     returns
     returns-2)

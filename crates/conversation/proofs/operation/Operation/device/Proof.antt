@@ -10,5 +10,9 @@ device-spec =
     (tie.spec
     (λ c. search needs)
     (λ c. search needs)
+    (λ c. search needs)
+    (λ c. search needs)
     (λ c. simp (c .enum-told .given .1))
-    (λ c. simp (c .enum-told2 .given .1)))
+    (λ c. simp (c .enum-told2 .given .1))
+    (λ c. simp (c .enum-told3 .given .1))
+    (λ c. simp (c .enum-told4 .given .1)))
