@@ -1,0 +1,19 @@
+use borrow.Author.Needs.{needs}
+use Rattle.trace.proofs.Laws.{found-hex}
+use Rattle.trace.proofs.operation.single.Statement.{statement}
+use Rattle.trace.proofs.operation.single.Tie as tie
+
+pub single-spec : {M : Type 1} → statement M
+single-spec =
+    tie.close
+    (tie.spec
+    (λ c κs. search needs)
+    (λ c. search needs)
+    (λ c. search needs)
+    (λ c. simp (c .before .before .word .ensures .0, c .enum-told .given .1))
+    (λ c κs. search needs)
+    (λ c. search needs)
+    (λ c. simp (c .before .before .before .before .before .before .word .ensures .0, c .before .before .before .before .start .given .1, c .before .before .word2 .ensures .0, c .enum-told2 .given .1))
+    (λ c. search needs)
+    (λ c κs. search needs)
+    (λ c. simp (c .before .before .before .before .before .before .before .word .ensures .0, c .before .before .before .before .before .start .given .1, c .before .before .before .word2 .ensures .0, c .before .enum-told3 .given .1, found-hex _ _ _ (c .before .before .before .before .before .before .before .word .ensures .1) (c .before .before .before .before .before .start .given .1) _ _ (c .hex .ensures))))
