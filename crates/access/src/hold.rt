@@ -10,11 +10,10 @@ use hostif::token::Token;
 use hostif::token::TokenStep;
 use sync::sync::Sync;
 use sync::sync::SyncStep;
-ghost use Prim.Native.Nat.{ℕ, _≤_};
+ghost use Prim.Native.Nat.{ℕ};
 ghost use mathlib.Core.Bool.{true, false};
 ghost use mathlib.Core.List.{List};
 ghost use mathlib.Core.Path.{_≡_};
-ghost use lib.ListN.{length};
 ghost use Rattle.hardware.specs.Told.{unitOf};
 ghost use Rattle.reference.specs.Acquire.{
   hwOf,
@@ -85,8 +84,7 @@ impl Hold {
         }
     }
 
-    fn again(port: Port, hw: u32, block: &mut [u32], left: u32) -> HoldStep
-        requires { ⌜ 2 ≤ length (now block) ⌝ }
+    fn again(port: Port, hw: u32, block: &mut [u32; 16], left: u32) -> HoldStep
         ensures { λ r. ⌜ toldHold port hw (now (block .exit)) r ≡ acquireTimes port hw left ⌝ }
     {
         if left == 0 {
@@ -101,8 +99,7 @@ impl Hold {
         }
     }
 
-    fn ask(port: Port, hw: u32, block: &mut [u32], left: u32) -> HoldStep
-        requires { ⌜ 2 ≤ length (now block) ⌝ }
+    fn ask(port: Port, hw: u32, block: &mut [u32; 16], left: u32) -> HoldStep
         ensures { λ r. ⌜ toldHold port hw (now (block .exit)) r ≡ acquireAsk port hw (acquireTimes port hw left) ⌝ }
     {
         let token = Token { take: true };
@@ -110,8 +107,7 @@ impl Hold {
         Hold::asked(port, hw, left, step)
     }
 
-    fn taken(port: Port, hw: u32, block: &mut [u32], left: u32, step: SyncStep) -> HoldStep
-        requires { ⌜ 2 ≤ length (now block) ⌝ }
+    fn taken(port: Port, hw: u32, block: &mut [u32; 16], left: u32, step: SyncStep) -> HoldStep
         ensures { λ r. ⌜ toldHold port hw (now (block .exit)) r ≡ holdTaken port hw left (toldSync hw step) ⌝ }
     {
         match step {
@@ -217,8 +213,7 @@ impl Hold {
         }
     }
 
-    pub fn acquire(port: Port, mask: u32, block: &mut [u32]) -> HoldStep
-        requires { ⌜ 2 ≤ length (now block) ⌝ }
+    pub fn acquire(port: Port, mask: u32, block: &mut [u32; 16]) -> HoldStep
         ensures { λ r. ⌜ toldHold port (hwOf mask) (now (block .exit)) r ≡ acquire port mask ⌝ }
     {
         let hw = mask & !Hold::TOKEN;
@@ -229,8 +224,7 @@ impl Hold {
         }
     }
 
-    pub fn release(port: Port, mask: u32, block: &mut [u32]) -> HoldStep
-        requires { ⌜ 2 ≤ length (now block) ⌝ }
+    pub fn release(port: Port, mask: u32, block: &mut [u32; 16]) -> HoldStep
         ensures { λ r. ⌜ toldHold port (hwOf mask) (now (block .exit)) r ≡ release port mask ⌝ }
     {
         let hw = mask & !Hold::TOKEN;
@@ -243,8 +237,13 @@ impl Hold {
         }
     }
 
-    fn bits(port: Port, hw: u32, block: &mut [u32], place: BitsPlace, step: SyncStep) -> HoldStep
-        requires { ⌜ 2 ≤ length (now block) ⌝ }
+    fn bits(
+        port: Port,
+        hw: u32,
+        block: &mut [u32; 16],
+        place: BitsPlace,
+        step: SyncStep,
+    ) -> HoldStep
         ensures { λ r. ⌜ toldHold port hw (now (block .exit)) r ≡ holdBits port hw place (toldSync hw step) ⌝ }
     {
         match place {
@@ -258,12 +257,11 @@ impl Hold {
     fn token(
         port: Port,
         hw: u32,
-        block: &mut [u32],
+        block: &mut [u32; 16],
         place: TokenPlace,
         state: Command,
         reply: Reply,
     ) -> HoldStep
-        requires { ⌜ 2 ≤ length (now block) ⌝ }
         ensures { λ r. ⌜ toldHold port hw (now (block .exit)) r ≡ resumeHold port hw (Hold.Token place state) (now (block .entry)) reply ⌝ }
     {
         match place {
@@ -280,8 +278,7 @@ impl Hold {
         }
     }
 
-    pub fn next(self, port: Port, hw: u32, block: &mut [u32], reply: Reply) -> HoldStep
-        requires { ⌜ 2 ≤ length (now block) ⌝ }
+    pub fn next(self, port: Port, hw: u32, block: &mut [u32; 16], reply: Reply) -> HoldStep
         ensures { λ r. ⌜ toldHold port hw (now (block .exit)) r ≡ resumeHold port hw self (now (block .entry)) reply ⌝ }
     {
         match self {

@@ -1,2 +1,2 @@
-// Tier 1: an access, from taking what it holds to giving it back.
+pub mod access;
 pub mod hold;

@@ -8,13 +8,16 @@ use native.Mathlib.Numerals.{add-one, add-two}
 use native.Mathlib.Nat.{add-assoc, zero-add, add-zero, add-suc, suc-add}
 use borrow.Author.Tests.{lt-ltb, le-ltb}
 use lib.ListN.{length, take, drop, take-append-drop, getD, set, replicate, length-drop, drop-of-length-le}
-use lib.Seq.{sets, drop-cons, drop-drop, length-sets, paste, paste-suc, length-take-le, take-all}
-use Rattle.hardware.specs.Talk.{Talk, ask, end}
+use lib.Seq.{sets, drop-cons, drop-drop, length-sets, paste, paste-suc, length-take-le, take-all, take-length, take-at, length-paste}
+use Rattle.hardware.specs.Refusal.{refusal}
+use Rattle.hardware.specs.Talk.{Talk, ask, end, ok}
+use Rattle.hardware.specs.declared.Port.{Port}
+use Rattle.reference.specs.Operations.{operation}
 use Rattle.hardware.specs.declared.Action.{Action}
 use Rattle.hardware.specs.declared.Action.the-variants.{Read, Write, Wait}
 use Rattle.hardware.specs.declared.Reply.{Reply}
 use Rattle.conversation.specs.Act.{uses, words, replyFor}
-use Rattle.conversation.specs.Conversation.{Conv, Out, told, convOf, gone}
+use Rattle.conversation.specs.Conversation.{Conv, Out, told, convOf, gone, padded, phyOf, deviceOf, opOf, opening, begun}
 use Rattle.conversation.specs.Run.{
   Run,
   Tape,
@@ -34,15 +37,38 @@ use Rattle.conversation.specs.Run.{
 }
 use Rattle.conversation.specs.declared.conversation.Stop.the-variants.{Done, AfterEnd, BadReply, NoReply, NoRoom}
 use Rattle.conversation.specs.declared.conversation.Conversation as code
+use Rattle.conversation.specs.declared.operation.Operation.{Operation}
 use Rattle.conversation.specs.declared.operation.Place.{Place}
 use Rattle.conversation.specs.declared.run.Ran.{Ran}
 
--- one more word is copied over the zeros
-pub copy-suc : (s : List ℕ) (j : ℕ) → j < 16 → j < length s
-    → set (paste (replicate 16 0) 0 s j) j (getD s j 0) ≡ paste (replicate 16 0) 0 s (j + 1)
-copy-suc s j h k =
-    let h' : 0 + j < 16 = omega arith in
-    simp (add-one, zero-add) (simp zero-add at (paste-suc (replicate 16 0) 0 s j 0 h' k))
+-- one more word is copied to the front of a block
+pub copy-suc : (d s : List ℕ) (j : ℕ) → j < length d → j < length s → set (paste d 0 s j) j (getD s j 0) ≡ paste d 0 s (j + 1)
+copy-suc d s j h k =
+    let h' : 0 + j < length d = omega arith in
+    simp (add-one, zero-add) (simp zero-add at (paste-suc d 0 s j 0 h' k))
+
+-- all of them are, to a block of the same length
+module _ (d s : List ℕ) (same : length d ≡ length s) where
+  pub copy-length : {i : ℕ} {b : List ℕ} → i ≤ length s → b ≡ paste d 0 s i → length b ≡ length s
+  copy-length {i} h e = ap length e ∙ length-paste d 0 s i (omega arith) h ∙ same
+
+  pub copy-all : paste d 0 s (length s) ≡ s
+  copy-all =
+      let short : length d ≤ length s = omega arith in
+      simp (take-length, zero-add, drop-of-length-le d short, append-nil)
+
+-- the words under it are still in a block that was padded
+pub take-padded : (ws : List ℕ) → take (length ws) (padded ws) ≡ ws
+take-padded ws = take-at ws (drop (length ws) (replicate 16 0)) (length ws) refl
+
+-- a call that is not turned away begins with the operation, on the words that were copied
+pub not-refused : (port : Port) (what : Operation) (ws block : List ℕ) {t : Talk Out} {phy device : ℕ} → phyOf what ≡ phy → deviceOf what ≡ device
+    → refusal port phy device (length ws) ≡ ok tt → block ≡ padded ws → t ≡ operation port (opOf what (take (length ws) block))
+    → opening port t ≡ begun port what ws
+not-refused port what ws block {t} p d r b e =
+    let words : take (length ws) block ≡ ws = ap (take (length ws)) b ∙ take-padded ws in
+    let says : t ≡ operation port (opOf what ws) = e ∙ ap (λ (l : List ℕ). operation port (opOf what l)) words in
+    ap (opening port) says ∙ rw (p, d, r)
 
 -- what a conversation says where it stands at a place that is known
 pub at-place : (c : code.Conversation) {p : Place} → c .place ≡ p → convOf c .talk ≡ told (c .port) p (c .block)

@@ -23,7 +23,7 @@ use Rattle.conversation.specs.Run.{Run, stopped, before, runTalk, joined
 use Rattle.conversation.specs.declared.conversation.Stop.{Stop}
 use Rattle.conversation.specs.declared.conversation.Stop.the-variants.{AfterEnd, BadReply, NoRoom, NoReply}
 use Rattle.conversation.specs.declared.operation.Operation.{Operation}
-use Rattle.conversation.proofs.Bounds.{within-begun, fits-begun}
+use Rattle.conversation.proofs.Bounds.{short-begun}
 use Rattle.conversation.proofs.Laws.{all-run}
 use Rattle.conversation.proofs.Runs.{
   go-on,
@@ -294,11 +294,11 @@ unfolding runInto
 counts-exact port what ws rs t at =
     let c : Conv = begun port what ws in
     let d : List Action = doneBy c rs t at 0 in
-    let bound = within-run (within-begun port what ws) rs (length t - at) in
-    let fits = fits-begun what in
+    let short = short-begun port what ws in
+    let bound = within-run (short .within) rs (length t - at) in
     let actions : after (tapeOf c t at 0) d .actions ≡ (0 + length d) % 2 ^ 64 = actions-after (tapeOf c t at 0) d (omega arith) in
     let micros : after (tapeOf c t at 0) d .micros ≡ (0 + waitedBy d) % 2 ^ 64 = micros-after (tapeOf c t at 0) d (omega arith) in
-    (omega (arith, bound .0, fits .of-actions), omega (arith, bound .1, fits .of-micros))
+    (omega (arith, bound .0, short .of-actions), omega (arith, bound .1, short .of-micros))
 
 -- ---- a step is a run of one action
 

@@ -2,27 +2,22 @@
 use Prim.Native.Nat.{ℕ, _+_, _%_, _^_}
 use mathlib.Core.List.{List, [], _++_}
 use lib.Dec.{eqb, ltb}
-use lib.ListN.{length, drop, replicate}
+use lib.ListN.{length, take, drop, replicate}
 use Rattle.hardware.specs.Bound.{waited}
-use Rattle.hardware.specs.Talk.{Talk, ask, end, Res, ok, err, pick, checked, orStop}
+use Rattle.hardware.specs.Talk.{Talk, ask, end, andThen, Res, ok, err, pick}
 use Rattle.hardware.specs.Refusal.{refusal}
 use Rattle.hardware.specs.declared.Action.{Action}
 use Rattle.hardware.specs.declared.Reply.{Reply}
 use Rattle.hardware.specs.declared.Reply.the-variants as reply
 use Rattle.hardware.specs.declared.Port.{Port}
-use Rattle.hardware.specs.declared.Error.{Error}
-use Rattle.answers.specs.declared.Value.{Value}
-use Rattle.answers.specs.declared.Value.the-variants.{Flag, Link}
-use Rattle.answers.specs.declared.Answer.{Answer}
-use Rattle.answers.specs.declared.Answer.the-variants as answer
+use Rattle.hardware.specs.declared.Error.the-variants.{Block}
 use Rattle.reference.specs.Operations as ops
-use Rattle.reference.specs.Hardware.{vetoed, linked}
-use Rattle.access.specs.Hold.{resumeHold}
+use Rattle.access.specs.Access.{resumeAccess}
+use Rattle.operations.specs.After.{answerOf, resumeAfter}
 use Rattle.conversation.specs.Act.{uses, replyOf}
 use Rattle.conversation.specs.declared.operation.Operation.{Operation}
 use Rattle.conversation.specs.declared.operation.Operation.the-variants as operationv
 use Rattle.conversation.specs.declared.operation.Op.{Op}
-use Rattle.conversation.specs.declared.operation.Op.the-variants as op
 use Rattle.conversation.specs.declared.operation.Place.{Place}
 use Rattle.conversation.specs.declared.operation.Place.the-variants as place
 use Rattle.conversation.specs.declared.conversation.Conversation as code
@@ -36,36 +31,28 @@ Out = ops.Out
 
 -- the PHY address and the MDIO device address among its arguments, 0 where it has none
 unfoldable pub phyOf : Operation → ℕ
-phyOf operationv.Veto = 0
-phyOf operationv.Link = 0
-phyOf (operationv.Acquire mask) = 0
-phyOf (operationv.Release mask) = 0
+phyOf what = 0
 
 unfoldable pub deviceOf : Operation → ℕ
-deviceOf operationv.Veto = 0
-deviceOf operationv.Link = 0
-deviceOf (operationv.Acquire mask) = 0
-deviceOf (operationv.Release mask) = 0
+deviceOf what = 0
 
--- the operation of the reference that it is
-abbrev pub opOf : Operation → ops.Op
-opOf operationv.Veto = ops.Veto
-opOf operationv.Link = ops.Link
-opOf (operationv.Acquire mask) = ops.Acquire mask
-opOf (operationv.Release mask) = ops.Release mask
+-- the operation of the reference that it is, with the words of its host block
+abbrev pub opOf : Operation → List ℕ → ops.Op
+opOf operationv.Veto ws = ops.Veto
+opOf operationv.Link ws = ops.Link
+opOf (operationv.Acquire mask) ws = ops.Acquire mask
+opOf (operationv.Release mask) ws = ops.Release mask
+opOf operationv.Command ws = ops.Command ws
+opOf (operationv.Token take) ws = ops.Token take
+opOf (operationv.PhyActivity asked) ws =
+    ops.PhyActivity (asked .activity) (asked .data .w0) (asked .data .w1) (asked .data .w2) (asked .data .w3)
 
 -- what a running operation says, from the reply that it waits for, with the host block as it is now
 abbrev pub resumeOp : Port → Op → Reply → List ℕ → Talk Out
-resumeOp port op.Veto r b = ops.answer Flag (orStop vetoed (checked r))
-resumeOp port op.Link r b = ops.answer Link (orStop (linked (port .family)) (checked r))
-resumeOp port (op.Hold hw s) r b = ops.answer ops.nothing (resumeHold port hw s b r)
-
-abbrev pub answerOf : Answer → Res Value
-answerOf (answer.Ok v) = ok v
-answerOf (answer.Err e) = err e
+resumeOp port op r b = andThen (resumeAccess port (op .access) b r) (λ p. resumeAfter port (op .after) (p .0) (p .1))
 
 abbrev pub told : Port → Place → List ℕ → Talk Out
-told port (place.Ended a) b = end (answerOf a, [])
+told port (place.Ended a words) b = end (answerOf a, take words b)
 told port (place.Asks a s) b = ask a (λ r. resumeOp port s r b)
 
 pub record Conv : Type 0 where
@@ -95,7 +82,7 @@ started t (ok u) = t
 
 -- `begin`: 20 to 23, or the reference's operation
 abbrev pub begun : Port → Operation → List ℕ → Conv
-begun port what ws = opening port (started (ops.operation port (opOf what)) (refusal port (phyOf what) (deviceOf what) (length ws)))
+begun port what ws = opening port (started (ops.operation port (opOf what ws)) (refusal port (phyOf what) (deviceOf what) (length ws)))
 
 -- one action is done, and the conversation goes on as t. The code's counts wrap at 2 ^ 64, which nothing begun comes near
 abbrev pub gone : Conv → Action → Talk Out → Conv
@@ -127,3 +114,12 @@ stepOn (ask a k) c kind value =
 
 abbrev pub stepTalk : Conv → ℕ → ℕ → Step
 stepTalk c kind value = stepOn (c .talk) c kind value
+
+-- a block's words go to a lent block of the same length; 23 for another, which is left as it was
+abbrev pub given : List ℕ → List ℕ → Res (Unit {0}) × List ℕ
+given ws block = pick (eqb (length block) (length ws)) (ok tt, ws) (err Block, block)
+
+-- what an ended conversation hands back; one that still runs has nothing to hand back
+abbrev pub handedBack : Talk Out → List ℕ → Res (Unit {0}) × List ℕ
+handedBack (end r) block = given (r .1) block
+handedBack (ask a k) block = (err Block, block)

@@ -14,13 +14,13 @@ use hardware::Unit;
 ghost use mathlib.Core.Path.{_≡_};
 ghost use Prim.Native.Nat.{_≤_};
 ghost use mathlib.Core.List.{[]};
-ghost use lib.ListN.{length};
+ghost use lib.ListN.{length, take};
+ghost use Rattle.hardware.specs.Told.{unitOf};
 ghost use Rattle.hardware.specs.Talk.{end, err};
 ghost use Rattle.conversation.specs.Conversation.{
   told,
   resumeOp,
   convOf,
-  conv,
   gone,
   opening,
   padded,
@@ -28,6 +28,8 @@ ghost use Rattle.conversation.specs.Conversation.{
   number,
   steppedOf,
   stepTalk,
+  given,
+  handedBack,
 };
 
 // The whole state of a conversation.
@@ -83,6 +85,30 @@ fn copied(block: &[u32]) -> [u32; 16]
     b
 }
 
+// A block's words into a lent one of the same length.
+fn give(words: &[u32], block: &mut [u32]) -> Unit
+    ensures { λ r. ⌜ (unitOf r, now (block .exit)) ≡ given (now (words .entry)) (now (block .entry)) ⌝ }
+{
+    if block.len() != words.len() {
+        return Unit::Err(Error::Block);
+    }
+    let mut i = 0;
+    while i < words.len() {
+        block[i] = words[i];
+        i += 1;
+    }
+    Unit::Ok
+}
+
+fn give_first(own: &[u32], words: usize, block: &mut [u32]) -> Unit
+    ensures { λ r. ⌜ (unitOf r, now (block .exit)) ≡ given (take words (now (own .entry))) (now (block .entry)) ⌝ }
+{
+    if words > own.len() {
+        return give(own, block);
+    }
+    give(&own[..words], block)
+}
+
 impl Conversation {
     // A conversation that has ended from the start, for a call that is turned away.
     fn refused(port: Port, e: Error) -> Conversation
@@ -91,7 +117,7 @@ impl Conversation {
         let block = [0u32; 16];
         Conversation {
             port,
-            place: Place::Ended(Answer::Err(e)),
+            place: Place::Ended(Answer::Err(e), 0),
             block,
             actions: 0,
             micros: 0,
@@ -106,7 +132,7 @@ impl Conversation {
             Unit::Err(e) => Conversation::refused(port, e),
             Unit::Ok => {
                 let mut words = copied(block);
-                let place = what.start(port, &mut words);
+                let place = what.start(port, &mut words, block.len());
                 Conversation {
                     port,
                     place,
@@ -118,36 +144,20 @@ impl Conversation {
         }
     }
 
-    // Goes on from the reply, with these counts.
-    fn resumed(
-        port: Port,
-        op: Op,
-        reply: Reply,
-        block: [u32; 16],
-        actions: u64,
-        micros: u64,
-    ) -> Conversation
-        ensures { λ r. ⌜ convOf r ≡ conv port (resumeOp port op reply block) actions micros ⌝ }
-    {
-        let mut words = block;
-        let place = op.next(port, &mut words, reply);
-        Conversation {
-            port,
-            place,
-            block: words,
-            actions,
-            micros,
-        }
-    }
-
     // The action is answered, and counted. Both `step` and `run` go this way.
     pub fn answered(self, a: Action, op: Op, reply: Reply) -> Conversation
         ensures { λ r. ⌜ convOf r ≡ gone (convOf self) a (resumeOp (self .port) op reply (self .block)) ⌝ }
     {
-        let block = self.block;
-        let actions = std::num::wrapping_add_u64(self.actions, 1);
-        let micros = std::num::wrapping_add_u64(self.micros, waited_of(a));
-        Conversation::resumed(self.port, op, reply, block, actions, micros)
+        let port = self.port;
+        let mut block = self.block;
+        let place = op.next(port, &mut block, reply);
+        Conversation {
+            port,
+            place,
+            block,
+            actions: std::num::wrapping_add_u64(self.actions, 1),
+            micros: std::num::wrapping_add_u64(self.micros, waited_of(a)),
+        }
     }
 
     // One action is answered with a reply's two words.
@@ -156,7 +166,7 @@ impl Conversation {
     {
         let place = self.place;
         match place {
-            Place::Ended(_) => Stepped {
+            Place::Ended(_, _) => Stepped {
                 stop: Stop::AfterEnd,
                 to: self,
             },
@@ -177,6 +187,21 @@ impl Conversation {
                         to: self.answered(a, op, reply_of(kind, value)),
                     }
                 }
+            }
+        }
+    }
+
+    // Hands the words of a `command` that has ended, well or not, back to the block that they came from. A block of another
+    // length is 23 and stays as it was, and so is any block before the end.
+    pub fn hand_back(self, block: &mut [u32]) -> Unit
+        ensures { λ r. ⌜ (unitOf r, now (block .exit)) ≡ handedBack (convOf self .talk) (now (block .entry)) ⌝ }
+    {
+        let place = self.place;
+        match place {
+            Place::Asks(_, _) => Unit::Err(Error::Block),
+            Place::Ended(_, words) => {
+                let own = self.block;
+                give_first(&own, words, block)
             }
         }
     }

@@ -1,23 +1,24 @@
 // What can be begun, and where a begun operation stands.
-use access::hold::Hold;
-use access::hold::HoldStep;
+use access::access::Access;
+use access::access::AccessStep;
+use access::access::Job;
+use activity::Activity;
+use activity::Asked;
 use answers::Answer;
-use answers::Value;
 use hardware::Action;
 use hardware::Port;
 use hardware::Reply;
-use hardware::Unit;
-use hardware::Word;
-use words::link::Link;
-ghost use mathlib.Core.Path.{_≡_};
-ghost use Prim.Native.Nat.{ℕ, _≤_};
+use hostif::token::Token;
+use operations::After;
+use operations::AfterStep;
+ghost use Prim.Native.Nat.{ℕ};
 ghost use mathlib.Core.List.{List};
-ghost use lib.ListN.{length};
-ghost use Rattle.hardware.specs.Talk.{orStop, checked};
-ghost use Rattle.answers.specs.declared.Value.the-variants as value;
-ghost use Rattle.reference.specs.Hardware.{vetoed, linked};
-ghost use Rattle.reference.specs.Operations.{answer, nothing, operation};
-ghost use Rattle.access.specs.Hold.{toldHold};
+ghost use mathlib.Core.Path.{_≡_};
+ghost use lib.ListN.{length, take};
+ghost use Rattle.hardware.specs.Talk.{andThen};
+ghost use Rattle.reference.specs.Operations.{operation};
+ghost use Rattle.access.specs.Access.{toldAccess, jobTalk};
+ghost use Rattle.operations.specs.After.{resumeAfter, toldAfter};
 ghost use Rattle.conversation.specs.Conversation.{phyOf, deviceOf, opOf, resumeOp, told};
 
 // What the host asks for.
@@ -28,20 +29,32 @@ pub enum Operation {
     Acquire(u32),
     // mask
     Release(u32),
+    // its words are the host block's
+    Command,
+    // take
+    Token(bool),
+    PhyActivity(Asked),
 }
 
-// A running operation, at the action that it asks for.
-pub enum Op {
-    Veto,
-    Link,
-    // acquire, release: the mask without TOKEN
-    Hold(u32, Hold),
+// A running operation, at the action that its access asks for.
+pub struct Op {
+    pub access: Access,
+    pub after: After,
 }
 
-// Where a conversation stands: at its end, or at an action that it asks for.
+// Where a conversation stands: at its end, with how many words of the host block belong to the answer, or at an action that
+// it asks for.
 pub enum Place {
-    Ended(Answer),
+    Ended(Answer, usize),
     Asks(Action, Op),
+}
+
+// How many words the first so many of a block of 16 are.
+fn count(block: &[u32], words: usize) -> u32
+    requires { ⌜ length (now block) ≡ 16 ⌝ }
+    ensures { λ r. ⌜ length (take words (now (block .entry))) ≡ r ⌝ }
+{
+    if words < 16 { words as u32 } else { 16 }
 }
 
 impl Operation {
@@ -49,89 +62,87 @@ impl Operation {
     pub fn phy(self) -> u32
         ensures { λ r. ⌜ phyOf self ≡ r ⌝ }
     {
-        match self {
-            Operation::Veto => 0,
-            Operation::Link => 0,
-            Operation::Acquire(_) => 0,
-            Operation::Release(_) => 0,
-        }
+        0
     }
 
     // The MDIO device address among its arguments, 0 where it has none.
     pub fn device(self) -> u32
         ensures { λ r. ⌜ deviceOf self ≡ r ⌝ }
     {
-        match self {
-            Operation::Veto => 0,
-            Operation::Link => 0,
-            Operation::Acquire(_) => 0,
-            Operation::Release(_) => 0,
-        }
+        0
     }
 
-    pub fn start(self, port: Port, block: &mut [u32]) -> Place
-        requires { ⌜ 2 ≤ length (now block) ⌝ }
-        ensures { λ r. ⌜ told port r (now (block .exit)) ≡ operation port (opOf self) ⌝ }
+    // `words`: how many of the block are the host's.
+    pub fn start(self, port: Port, block: &mut [u32; 16], words: usize) -> Place
+        ensures { λ r. ⌜ told port r (now (block .exit)) ≡ operation port (opOf self (take words (now (block .entry)))) ⌝ }
     {
         match self {
-            Operation::Veto => Place::Asks(Action::Read(Port::MMNGC), Op::Veto),
-            Operation::Link => Place::Asks(Action::Read(Port::LINKS), Op::Link),
+            Operation::Veto => Op::begun(port, Job::Read(Port::MMNGC), After::Veto),
+            Operation::Link => Op::begun(port, Job::Read(Port::LINKS), After::Link),
             Operation::Acquire(mask) => {
-                let step = Hold::acquire(port, mask, block);
-                Op::held(port, mask & !Hold::TOKEN, step)
+                let step = Access::acquire(port, mask, block);
+                Op::stepped(port, After::Nothing, block, step)
             }
             Operation::Release(mask) => {
-                let step = Hold::release(port, mask, block);
-                Op::held(port, mask & !Hold::TOKEN, step)
+                let step = Access::release(port, mask, block);
+                Op::stepped(port, After::Nothing, block, step)
+            }
+            Operation::Command => {
+                let n = count(block, words);
+                Op::begun(port, Job::Command(words), After::Command(n))
+            }
+            Operation::Token(take) => {
+                let token = Token { take };
+                token.put(port, block);
+                Op::begun(port, Job::Command(2), After::Token(take))
+            }
+            Operation::PhyActivity(asked) => {
+                let step = Activity::start(asked, port, block);
+                Op::decided(port, After::activity(port, asked, step))
             }
         }
     }
 }
 
 impl Op {
-    fn veto(port: Port, reply: Reply) -> Place
-        ensures { λ r. ⌜ ((b : List ℕ) → told port r b ≡ answer value.Flag (orStop vetoed (checked reply))) ⌝ }
+    // The next access begins.
+    fn begun(port: Port, job: Job, after: After) -> Place
+        ensures { λ r. ⌜ ((b : List ℕ) → told port r b ≡ andThen (jobTalk port job b) (λ p. resumeAfter port after (p .0) (p .1))) ⌝ }
     {
-        match reply.checked() {
-            Word::Err(e) => Place::Ended(Answer::Err(e)),
-            Word::Ok(v) => Place::Ended(Answer::Ok(Value::Flag(v & 1 != 0))),
-        }
+        let begun = job.start(port);
+        let access = begun.access;
+        let action = begun.action;
+        Place::Asks(action, Op { access, after })
     }
 
-    fn link(port: Port, reply: Reply) -> Place
-        ensures { λ r. ⌜ ((b : List ℕ) → told port r b ≡ answer value.Link (orStop (linked (port .family)) (checked reply))) ⌝ }
-    {
-        let family = port.family;
-        match reply.checked() {
-            Word::Err(e) => Place::Ended(Answer::Err(e)),
-            Word::Ok(v) => Place::Ended(Answer::Ok(Value::Link(Link::of(family, v)))),
-        }
-    }
-
-    fn held(port: Port, hw: u32, step: HoldStep) -> Place
-        ensures { λ r. ⌜ ((b : List ℕ) → told port r b ≡ answer nothing (toldHold port hw b step)) ⌝ }
+    fn decided(port: Port, step: AfterStep) -> Place
+        ensures { λ r. ⌜ ((b : List ℕ) → told port r b ≡ toldAfter port b step) ⌝ }
     {
         match step {
-            HoldStep::Ask(a, s) => Place::Asks(a, Op::Hold(hw, s)),
-            HoldStep::Done(r) => match r {
-                Unit::Ok => Place::Ended(Answer::Ok(Value::Nothing)),
-                Unit::Err(e) => Place::Ended(Answer::Err(e)),
-            },
+            AfterStep::Ask(job, after) => Op::begun(port, job, after),
+            AfterStep::Done(answer, words) => Place::Ended(answer, words),
+        }
+    }
+
+    fn stepped(port: Port, after: After, block: &mut [u32; 16], step: AccessStep) -> Place
+        ensures { λ r. ⌜ told port r (now (block .exit)) ≡ andThen (toldAccess port (now (block .entry)) step) (λ p. resumeAfter port after (p .0) (p .1)) ⌝ }
+    {
+        match step {
+            AccessStep::Ask(a, access) => Place::Asks(a, Op { access, after }),
+            AccessStep::Done(got, words) => {
+                let next = after.next(port, block, got, words);
+                Op::decided(port, next)
+            }
         }
     }
 
     // Goes on from the reply.
-    pub fn next(self, port: Port, block: &mut [u32], reply: Reply) -> Place
-        requires { ⌜ 2 ≤ length (now block) ⌝ }
+    pub fn next(self, port: Port, block: &mut [u32; 16], reply: Reply) -> Place
         ensures { λ r. ⌜ told port r (now (block .exit)) ≡ resumeOp port self reply (now (block .entry)) ⌝ }
     {
-        match self {
-            Op::Veto => Op::veto(port, reply),
-            Op::Link => Op::link(port, reply),
-            Op::Hold(hw, s) => {
-                let step = s.next(port, hw, block, reply);
-                Op::held(port, hw, step)
-            }
-        }
+        let access = self.access;
+        let after = self.after;
+        let step = access.next(port, block, reply);
+        Op::stepped(port, after, block, step)
     }
 }

@@ -59,7 +59,7 @@ fn run_on(c: Conversation, replies: &[u32], t: &mut [u32]) -> Ran
     loop {
         let place = to.place;
         match place {
-            Place::Ended(_) => {
+            Place::Ended(_, _) => {
                 return Ran {
                     stop: Stop::Done,
                     to,
@@ -117,7 +117,7 @@ pub fn run(c: Conversation, replies: &[u32], transcript: &mut [u32], at: usize) 
     ensures { λ r. ⌜ shownOf r (now (transcript .exit)) ≡ runAll (convOf c) (now (replies .entry)) (now (transcript .entry)) at ⌝ }
 {
     let place = c.place;
-    if let Place::Ended(_) = place {
+    if let Place::Ended(_, _) = place {
         return Ran {
             stop: Stop::AfterEnd,
             to: c,

@@ -15,9 +15,9 @@ use crate::phy::Scan;
 use crate::watch::Poll;
 use crate::watch::Watch;
 use crate::x552::Clock;
-use crate::x553::Activity;
-use crate::x553::Asked;
 use crate::x553::Bringup;
+use activity::Activity;
+use activity::Asked;
 
 // What is left of an operation when its access has ended, with the arguments that are still needed.
 pub enum After {

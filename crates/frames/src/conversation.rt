@@ -4,9 +4,9 @@ use answers::Answer;
 use hardware::Action;
 use hardware::Port;
 
-// It has ended, or the host is asked for an action.
+// It has ended, with so many words of the host block, or the host is asked for an action.
 pub enum Place {
-    Ended(Answer),
+    Ended(Answer, usize),
     Asks(Action, Op),
 }
 

@@ -1,33 +1,19 @@
-// Tier 2, x553.rs and hostif.rs's phy_activity, and bringup of both families. The port and the veto are parameters.
+// Tier 2, x553.rs, and bringup of both families. The port and the veto are parameters.
 use crate::kr::KrAutoneg;
 use crate::kr::KrModify;
 use crate::kr::RestartAn;
 use crate::x552::Clock;
 use crate::x552::CopperLink;
 use crate::x552::PrepareCopper;
+use activity::Activity;
 use answers::FirmwarePhy;
 use answers::FirmwareSetup;
 use answers::MaybeWord;
 use answers::Setup552;
 use answers::Setup553;
 use answers::SgmiiSetup;
-use answers::Words;
 use answers::X557;
 use hardware::Error;
-
-// phy_activity's arguments.
-pub struct Asked {
-    pub activity: u16,
-    pub data: Words,
-}
-
-// phy_activity. It finds its answer in the block.
-pub enum Activity {
-    // tries left after this one
-    Exchanging(u32),
-    // tries left, the last status
-    Pausing(u32, u32),
-}
 
 // Which of prepare_firmware's activities after the first.
 pub enum FirmwarePlace {

@@ -12,7 +12,7 @@ use Rattle.hardware.specs.declared.Action.{Action}
 use Rattle.hardware.specs.declared.Error.{Error}
 use Rattle.hardware.specs.declared.Port.{Port}
 use Rattle.hardware.specs.declared.Reply.{Reply}
-use Rattle.words.specs.Hostif.{fits, replyWords}
+use Rattle.words.specs.Hostif.{flexMng, fits, replyWords}
 use Rattle.reference.specs.Sync.{withBlock, heldGiven, heldDone, heldTaken, acquireBits, releaseBits}
 use Rattle.reference.specs.Hostif.{post, rest, replyLength, replyStatus, received, exchange, command}
 
@@ -44,7 +44,7 @@ unfolding times
 rest-bytes zero v h i b = status h
 rest-bytes (suc n) v h i b =
     pick-bytes (ltb i (length b))
-    (bind-bytes (keep (readRaw (0x15800 + 4 * i))) (λ w b. rest n v (i + 1) (set b i w)) (λ w b. rest-bytes n v h (i + 1) (set b i w)) b)
+    (bind-bytes (keep (readRaw (flexMng i))) (λ w b. rest n v (i + 1) (set b i w)) (λ w b. rest-bytes n v h (i + 1) (set b i w)) b)
     (status h)
 
 byte : (n : ℕ) → n % 256 < 256

@@ -8,7 +8,7 @@ use lib.ListN.{length, take, set}
 use Rattle.hardware.specs.Talk.{andThen}
 use Rattle.hardware.specs.declared.Port.{Port}
 use Rattle.reference.specs.Hostif.{command, tokenStatus, tokenAnswer}
-use Rattle.hostif.specs.Token.{tokenByte}
+use Rattle.hostif.specs.Token.{tokenGot}
 use Rattle.hostif.proofs.Bytes.{command-bytes, cut}
 
 -- a block whose first two words were written
@@ -20,6 +20,7 @@ two (x ∷ (y ∷ xs)) a b h = refl
 small : (v : ℕ) → v < 256 → v % 256 ≡ v
 small v h = omega arith
 
-pub token-cut : (port : Port) (b : List ℕ) (take : Bool) → andThen (command port b) (tokenByte take) ≡ andThen (command port b) (tokenAnswer take)
+pub token-cut : (port : Port) (b : List ℕ) (take : Bool)
+    → andThen (command port b) (λ p. tokenGot take (p .0)) ≡ andThen (command port b) (tokenAnswer take)
 token-cut port b take =
-    cut (tokenByte take) (tokenAnswer take) (λ v b h. ap (tokenStatus take) (small v h)) (λ e b. refl) (command-bytes port b)
+    cut (λ p. tokenGot take (p .0)) (tokenAnswer take) (λ v b h. ap (tokenStatus take) (small v h)) (λ e b. refl) (command-bytes port b)

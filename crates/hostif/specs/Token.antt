@@ -19,11 +19,11 @@ flagOf (flag.Ok v) = ok v
 flagOf (flag.Err e) = err e
 
 -- a command's status is a byte (proofs/Bytes.antt); of any other word the lowest byte is
-abbrev pub tokenByte : Bool → Res ℕ × List ℕ → Call Bool
-tokenByte take p = end (p .0) >>= (λ status. tokenStatus take (status % 256))
+abbrev pub tokenGot : Bool → Res ℕ → Call Bool
+tokenGot take got = end got >>= (λ status. tokenStatus take (status % 256))
 
 abbrev pub tokenAfter : Bool → Talk (Res ℕ × List ℕ) → Call Bool
-tokenAfter take t = andThen t (tokenByte take)
+tokenAfter take t = andThen t (λ p. tokenGot take (p .0))
 
 abbrev pub resumeToken : Port → Bool → Command → List ℕ → Reply → Call Bool
 resumeToken port take s b r = tokenAfter take (resumeCommand port s (list.take 2 b) r)

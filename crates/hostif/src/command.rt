@@ -3,16 +3,20 @@ use crate::exchange::Exchange;
 use crate::exchange::ExchangeStep;
 use hardware::Action;
 use hardware::Port;
+use hardware::Regs;
 use hardware::Reply;
 use hardware::Unit;
 use hardware::Word;
 use sync::sync::Sync;
 use sync::sync::SyncStep;
 use words::semaphore::Bits;
-ghost use Prim.Native.Nat.{ℕ, _≤_};
+ghost use Prim.Native.Nat.{ℕ};
 ghost use mathlib.Core.List.{List};
 ghost use mathlib.Core.Path.{_≡_};
-ghost use lib.ListN.{length};
+ghost use lib.ListN.{take};
+ghost use Rattle.hardware.specs.Talk.{ask};
+ghost use Rattle.hardware.specs.Regs.{regs};
+ghost use Rattle.hardware.specs.declared.Action.the-variants.{Read};
 ghost use Rattle.hardware.specs.Told.{wordOf, unitOf};
 ghost use Rattle.reference.specs.Sync.{both};
 ghost use Rattle.reference.specs.Hostif.{command};
@@ -90,11 +94,19 @@ impl Command {
         }
     }
 
-    // It needs no block yet.
+    // At its first action, SW_MNG's read of SWSM. It needs no block yet.
+    pub fn first(port: Port) -> Command
+        ensures { λ r. ⌜ ((b : List ℕ) → command port b ≡ ask (Read (regs (port .family) .swsm)) (λ x. resumeCommand port r b x)) ⌝ }
+    {
+        Command::Sync(CommandPlace::Acquiring, Sync::first(port, Bits::SW_MNG))
+    }
+
     pub fn start(port: Port) -> CommandStep
         ensures { λ r. ⌜ ((b : List ℕ) → toldCommand port b r ≡ command port b) ⌝ }
     {
-        Command::acquired(port, Sync::take(port, Bits::SW_MNG))
+        let family = port.family;
+        let regs = Regs::of(family);
+        CommandStep::Ask(Action::Read(regs.swsm), Command::first(port))
     }
 
     fn synced(port: Port, place: CommandPlace, step: SyncStep) -> CommandStep
@@ -107,7 +119,6 @@ impl Command {
     }
 
     pub fn next(self, port: Port, block: &mut [u32], reply: Reply) -> CommandStep
-        requires { ⌜ length (now block) ≤ 448 ⌝ }
         ensures { λ r. ⌜ toldCommand port (now (block .exit)) r ≡ resumeCommand port self (now (block .entry)) reply ⌝ }
     {
         match self {
@@ -116,6 +127,17 @@ impl Command {
                 let step = s.next(block, reply);
                 Command::after_body(port, step)
             }
+        }
+    }
+
+    // The same of a command of so many words, the first of a longer block.
+    pub fn next_of(self, words: usize, port: Port, block: &mut [u32], reply: Reply) -> CommandStep
+        ensures { λ r. ⌜ toldCommand port (take words (now (block .exit))) r ≡ resumeCommand port self (take words (now (block .entry))) reply ⌝ }
+    {
+        if words <= block.len() {
+            self.next(port, &mut block[..words], reply)
+        } else {
+            self.next(port, block, reply)
         }
     }
 }

@@ -5,12 +5,13 @@ use hardware::Action;
 use hardware::Error;
 use hardware::Reply;
 use hardware::Word;
+use words::hostif::FLEX_MNG;
 use words::hostif::fits;
+use words::hostif::flex_mng;
 use words::hostif::reply_words;
-ghost use Prim.Native.Nat.{ℕ, _≤_};
+ghost use Prim.Native.Nat.{ℕ};
 ghost use mathlib.Core.List.{List};
 ghost use mathlib.Core.Path.{_≡_};
-ghost use lib.ListN.{length};
 ghost use Rattle.hardware.specs.Told.{wordOf};
 ghost use Rattle.reference.specs.Hostif.{exchange, received, rest};
 ghost use Rattle.hostif.specs.Post.{toldPost};
@@ -21,7 +22,7 @@ pub enum Exchange {
     // the last HICR
     Head(u32),
     // status, the word's place, words left after it
-    Rest(u32, u32, u32),
+    Rest(u32, usize, u32),
 }
 
 // Done: the reply's status
@@ -38,17 +39,13 @@ impl Exchange {
             PostStep::Ask(a, s) => ExchangeStep::Ask(a, Exchange::Post(s)),
             PostStep::Done(r) => match r {
                 Word::Err(e) => ExchangeStep::Done(Word::Err(e)),
-                Word::Ok(last) => ExchangeStep::Ask(
-                    Action::Read(Post::FLEX_MNG),
-                    Exchange::Head(last),
-                ),
+                Word::Ok(last) => ExchangeStep::Ask(Action::Read(FLEX_MNG), Exchange::Head(last)),
             },
         }
     }
 
     // A reply that does not fit leaves the block as it was.
     fn received(block: &mut [u32], last: u32, head: u32) -> ExchangeStep
-        requires { ⌜ length (now block) ≤ 448 ⌝ }
         ensures { λ r. ⌜ toldExchange (now (block .exit)) r ≡ received last head (now (block .entry)) ⌝ }
     {
         let len = (head >> 8) % 256;
@@ -61,17 +58,15 @@ impl Exchange {
         }
     }
 
-    fn again_rest(block: &[u32], status: u32, left: u32, i: u32) -> ExchangeStep
-        requires { ⌜ length (now block) ≤ 448 ⌝ }
+    fn again_rest(block: &[u32], status: u32, left: u32, i: usize) -> ExchangeStep
         ensures { λ r. ⌜ toldExchange (now (block .entry)) r ≡ rest left status i (now (block .entry)) ⌝ }
     {
         if left == 0 {
             return ExchangeStep::Done(Word::Ok(status));
         }
-        let at = i as usize;
-        if at < block.len() {
+        if i < block.len() {
             ExchangeStep::Ask(
-                Action::Read(Post::FLEX_MNG + 4 * i),
+                Action::Read(flex_mng(i)),
                 Exchange::Rest(status, i, left - 1),
             )
         } else {
@@ -79,16 +74,14 @@ impl Exchange {
         }
     }
 
-    fn got(block: &mut [u32], status: u32, i: u32, left: u32, word: Word) -> ExchangeStep
-        requires { ⌜ length (now block) ≤ 448 ⌝ }
+    fn got(block: &mut [u32], status: u32, i: usize, left: u32, word: Word) -> ExchangeStep
         ensures { λ r. ⌜ toldExchange (now (block .exit)) r ≡ exchangeRest status i left (wordOf word) (now (block .entry)) ⌝ }
     {
-        let at = i as usize;
-        if at < block.len() {
+        if i < block.len() {
             match word {
                 Word::Err(e) => ExchangeStep::Done(Word::Err(e)),
                 Word::Ok(value) => {
-                    block[at] = value;
+                    block[i] = value;
                     Exchange::again_rest(block, status, left, i + 1)
                 }
             }
@@ -105,7 +98,6 @@ impl Exchange {
 
     // The reply is data: all ones is a value, so it is read raw.
     pub fn next(self, block: &mut [u32], reply: Reply) -> ExchangeStep
-        requires { ⌜ length (now block) ≤ 448 ⌝ }
         ensures { λ r. ⌜ toldExchange (now (block .exit)) r ≡ resumeExchange self (now (block .entry)) reply ⌝ }
     {
         match self {

@@ -4,10 +4,10 @@ use hardware::Error;
 use hardware::Reply;
 use hardware::Unit;
 use hardware::Word;
-ghost use Prim.Native.Nat.{ℕ, _≤_};
+use words::hostif::flex_mng;
+ghost use Prim.Native.Nat.{ℕ};
 ghost use mathlib.Core.List.{List};
 ghost use mathlib.Core.Path.{_≡_};
-ghost use lib.ListN.{length};
 ghost use Rattle.hardware.specs.Told.{wordOf};
 ghost use Rattle.reference.specs.Hostif.{post, posted, hicrTimes, writeWords};
 ghost use Rattle.hostif.specs.Post.{resumePost, toldPost, postFwsts, postHicr, postPolled};
@@ -17,7 +17,7 @@ pub enum Post {
     Fwri,
     Hicr,
     // HICR, the next word's place
-    Writing(u32, u32),
+    Writing(u32, usize),
     // HICR
     Started(u32),
     // reads left after this one
@@ -36,8 +36,6 @@ impl Post {
     pub const FWSTS: u32 = 0x15f0c;
 
     pub const HICR: u32 = 0x15f00;
-
-    pub const FLEX_MNG: u32 = 0x15800;
 
     // FWSTS
     pub const FWRI: u32 = 0x200;
@@ -69,7 +67,6 @@ impl Post {
     }
 
     fn hicr(block: &[u32], word: Word) -> PostStep
-        requires { ⌜ length (now block) ≤ 448 ⌝ }
         ensures { λ r. ⌜ toldPost (now (block .entry)) r ≡ postHicr (now (block .entry)) (wordOf word) ⌝ }
     {
         match word {
@@ -84,14 +81,12 @@ impl Post {
         }
     }
 
-    fn each_word(block: &[u32], hicr: u32, i: u32) -> PostStep
-        requires { ⌜ length (now block) ≤ 448 ⌝ }
+    fn each_word(block: &[u32], hicr: u32, i: usize) -> PostStep
         ensures { λ r. ⌜ toldPost (now (block .entry)) r ≡ writeWords (now (block .entry)) hicr i ⌝ }
     {
-        let at = i as usize;
-        if at < block.len() {
+        if i < block.len() {
             PostStep::Ask(
-                Action::Write(Post::FLEX_MNG + 4 * i, block[at]),
+                Action::Write(flex_mng(i), block[i]),
                 Post::Writing(hicr, i + 1),
             )
         } else {
@@ -142,9 +137,8 @@ impl Post {
         }
     }
 
-    // FLEX_MNG has 448 words below HICR.
+    // The block is the one of the whole talk.
     pub fn next(self, block: &[u32], reply: Reply) -> PostStep
-        requires { ⌜ length (now block) ≤ 448 ⌝ }
         ensures { λ r. ⌜ toldPost (now (block .entry)) r ≡ resumePost self (now (block .entry)) reply ⌝ }
     {
         match self {

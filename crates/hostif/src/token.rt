@@ -11,9 +11,10 @@ ghost use mathlib.Core.List.{List};
 ghost use mathlib.Core.Path.{_≡_};
 ghost use lib.ListN.{length, take};
 ghost use Rattle.hardware.specs.Talk.{end};
-ghost use Rattle.reference.specs.Hostif.{token, tokenWord, tokenStatus};
+ghost use Rattle.reference.specs.Hostif.{token, tokenBlock, tokenWord, tokenStatus};
 ghost use Rattle.hostif.specs.Command.{toldCommand};
-ghost use Rattle.hostif.specs.Token.{flagOf, resumeToken, toldToken, tokenAfter};
+ghost use Rattle.hardware.specs.Told.{wordOf};
+ghost use Rattle.hostif.specs.Token.{flagOf, resumeToken, toldToken, tokenAfter, tokenGot};
 
 // R<bool>
 pub enum Flag {
@@ -69,35 +70,54 @@ impl Token {
         })
     }
 
+    // What a command of it gave.
+    pub fn answered(self, got: Word) -> Flag
+        ensures { λ r. ⌜ tokenGot (self .take) (wordOf got) ≡ end (flagOf r) ⌝ }
+    {
+        match got {
+            Word::Err(e) => Flag::Err(e),
+            Word::Ok(status) => {
+                let byte = (status % 256) as u8;
+                self.status(byte)
+            }
+        }
+    }
+
     fn after_command(self, port: Port, step: CommandStep) -> TokenStep
         ensures { λ r. ⌜ ((b : List ℕ) → toldToken port (self .take) b r ≡ tokenAfter (self .take) (toldCommand port (take 2 b) step)) ⌝ }
     {
         match step {
             CommandStep::Ask(a, s) => TokenStep::Ask(a, s),
-            CommandStep::Done(r) => match r {
-                Word::Err(e) => TokenStep::Done(Flag::Err(e)),
-                Word::Ok(status) => {
-                    let byte = (status % 256) as u8;
-                    TokenStep::Done(self.status(byte))
-                }
-            },
+            CommandStep::Done(got) => TokenStep::Done(self.answered(got)),
         }
     }
 
-    pub fn start(self, port: Port, block: &mut [u32]) -> TokenStep
+    fn put_two(self, port: Port, block: &mut [u32])
         requires { ⌜ 2 ≤ length (now block) ⌝ }
-        ensures { λ r. ⌜ toldToken port (self .take) (now (block .exit)) r ≡ token port (self .take) ⌝ }
+        ensures { λ _. ⌜ take 2 (now (block .exit)) ≡ tokenBlock port (self .take) ⌝ }
     {
         block[0] = Token::HEADER;
         block[1] = self.word(port);
+    }
+
+    // The command's two words.
+    pub fn put(self, port: Port, block: &mut [u32; 16])
+        ensures { λ _. ⌜ take 2 (now (block .exit)) ≡ tokenBlock port (self .take) ⌝ }
+    {
+        self.put_two(port, block);
+    }
+
+    pub fn start(self, port: Port, block: &mut [u32; 16]) -> TokenStep
+        ensures { λ r. ⌜ toldToken port (self .take) (now (block .exit)) r ≡ token port (self .take) ⌝ }
+    {
+        self.put(port, block);
         self.after_command(port, Command::start(port))
     }
 
-    pub fn next(self, state: Command, port: Port, block: &mut [u32], reply: Reply) -> TokenStep
-        requires { ⌜ 2 ≤ length (now block) ⌝ }
+    pub fn next(self, state: Command, port: Port, block: &mut [u32; 16], reply: Reply) -> TokenStep
         ensures { λ r. ⌜ toldToken port (self .take) (now (block .exit)) r ≡ resumeToken port (self .take) state (now (block .entry)) reply ⌝ }
     {
-        let step = state.next(port, &mut block[..2], reply);
+        let step = state.next_of(2, port, block, reply);
         self.after_command(port, step)
     }
 }

@@ -10,7 +10,7 @@ use Rattle.hardware.specs.Block.{Blk, keep}
 use Rattle.hardware.specs.Block as blk
 use Rattle.hardware.specs.declared.Error.the-variants.{HostInterface, Firmware}
 use Rattle.hardware.specs.declared.Port.{Port}
-use Rattle.words.specs.Hostif.{swapBytes, fits, replyWords}
+use Rattle.words.specs.Hostif.{flexMng, swapBytes, fits, replyWords}
 use Rattle.words.specs.Shift.{shl}
 use Rattle.answers.specs.declared.Words.{Words}
 use Rattle.reference.specs.Sync.{lockedBits, withBlock}
@@ -40,7 +40,7 @@ started hicr =
 
 -- one word of the block
 abbrev pub writeTurn : List ℕ → (ℕ → Call ℕ) → ℕ → Call ℕ
-writeTurn block again i = write (0x15800 + 4 * i) (getD block i 0) >> again (i + 1)
+writeTurn block again i = write (flexMng i) (getD block i 0) >> again (i + 1)
 
 -- the block's words from place i on
 abbrev pub writeWords : List ℕ → ℕ → ℕ → Call ℕ
@@ -66,7 +66,7 @@ replyStatus head = head / 2 ^ 16 % 256
 abbrev pub restTurn : ℕ → (ℕ → List ℕ → Talk (Res ℕ × List ℕ)) → ℕ → List ℕ → Talk (Res ℕ × List ℕ)
 restTurn status again i b =
     pick (ltb i (length b))
-    (blk._>>=_ (keep (readRaw (0x15800 + 4 * i))) (λ v b. again (i + 1) (set b i v)) b)
+    (blk._>>=_ (keep (readRaw (flexMng i))) (λ v b. again (i + 1) (set b i v)) b)
     (blk.return status b)
 
 abbrev pub rest : ℕ → ℕ → ℕ → Blk ℕ
@@ -101,9 +101,12 @@ tokenStatus take status =
 abbrev pub tokenAnswer : Bool → Res ℕ × List ℕ → Call Bool
 tokenAnswer take p = end (p .0) >>= tokenStatus take
 
+abbrev pub tokenBlock : Port → Bool → List ℕ
+tokenBlock port take = header 0x0a 2 ∷ tokenWord port take ∷ []
+
 -- hostif.rs:67
 unfoldable pub token : Port → Bool → Call Bool
-token port take = andThen (command port (header 0x0a 2 ∷ tokenWord port take ∷ [])) (tokenAnswer take)
+token port take = andThen (command port (tokenBlock port take)) (tokenAnswer take)
 
 unfoldable pub activityBlock : Port → ℕ → ℕ → ℕ → ℕ → ℕ → List ℕ
 activityBlock port activity d0 d1 d2 d3 =

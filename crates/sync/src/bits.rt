@@ -16,7 +16,7 @@ use words::semaphore::Bits;
 ghost use mathlib.Core.Path.{_≡_};
 ghost use mathlib.Core.Bool.{true, false};
 ghost use Rattle.hardware.specs.Told.{wordOf, unitOf};
-ghost use Rattle.reference.specs.Sync.{setMux, acquireBitsTimes, releaseBitsLocked, releaseBitsWith};
+ghost use Rattle.reference.specs.Sync.{setMux, acquireBitsTimes, releaseBitsWith};
 ghost use Rattle.sync.specs.Lock.{toldClear, toldLock, toldUnlock};
 ghost use Rattle.sync.specs.Bits.{
   resumeMux,
@@ -207,12 +207,6 @@ impl AcquireBits {
                 Unit::Err(e) => AcquireBitsStep::Done(Unit::Err(e)),
             },
         }
-    }
-
-    pub fn start(regs: Regs, want: Bits, mux: bool) -> AcquireBitsStep
-        ensures { λ r. ⌜ toldAcquire regs want mux r ≡ acquireBitsTimes regs want mux 1000 0 ⌝ }
-    {
-        AcquireBits::again(regs, want, mux, 1000, 0)
     }
 
     pub fn next(self, regs: Regs, want: Bits, mux: bool, reply: Reply) -> AcquireBitsStep

@@ -3,6 +3,8 @@ use crate::bits::AcquireBits;
 use crate::bits::AcquireBitsStep;
 use crate::bits::ReleaseBits;
 use crate::bits::ReleaseBitsStep;
+use crate::lock::Lock;
+use crate::lock::Smbi;
 use hardware::Action;
 use hardware::Family;
 use hardware::Port;
@@ -11,6 +13,9 @@ use hardware::Reply;
 use hardware::Unit;
 use words::semaphore::Bits;
 ghost use mathlib.Core.Path.{_≡_};
+ghost use Rattle.hardware.specs.Talk.{ask};
+ghost use Rattle.hardware.specs.Regs.{regs};
+ghost use Rattle.hardware.specs.declared.Action.the-variants.{Read};
 ghost use Rattle.words.specs.Semaphore.{bits};
 ghost use Rattle.reference.specs.Sync.{mux, settle, acquireBits, releaseBits};
 ghost use Rattle.sync.specs.Bits.{toldAcquire, toldRelease};
@@ -69,14 +74,26 @@ impl Sync {
         }
     }
 
+    // acquire_bits at its first action, which is always a read of SWSM
+    pub fn first(port: Port, mask: u32) -> Sync
+        ensures { λ r. ⌜ acquireBits port mask ≡ ask (Read (regs (port .family) .swsm)) (λ x. resumeSync mask r x) ⌝ }
+    {
+        let family = port.family;
+        let lock = Lock::Smbi(Smbi::Reading(1999));
+        Sync::Take(
+            Regs::of(family),
+            mux(port, mask),
+            AcquireBits::Locking(999, lock),
+        )
+    }
+
     // acquire_bits
     pub fn take(port: Port, mask: u32) -> SyncStep
         ensures { λ r. ⌜ toldSync mask r ≡ acquireBits port mask ⌝ }
     {
         let family = port.family;
         let regs = Regs::of(family);
-        let on = mux(port, mask);
-        Sync::taking(regs, on, mask, AcquireBits::start(regs, Bits::of(mask), on))
+        SyncStep::Ask(Action::Read(regs.swsm), Sync::first(port, mask))
     }
 
     // release_bits

@@ -1,11 +1,11 @@
 -- What the calls of `text` say of a word that was found
-use Prim.Native.Nat.{ℕ, _≤_}
-use mathlib.Core.Path.{_≡_, sym, _∙_}
+use Prim.Native.Nat.{ℕ}
+use mathlib.Core.Path.{_≡_, ap, sym, _∙_}
 use mathlib.Core.Bool.{Bool}
 use mathlib.Core.List.{List}
 use native.Mathlib.Omega.{arith}
 use lib.ListN.{length}
-use lib.Seq.{slice}
+use lib.Seq.{slice, take-length}
 use Rattle.text.specs.Hex.{hexWord, hexPart}
 use Rattle.text.specs.Same.{same, isPart}
 use Rattle.text.specs.Words.{Inside}
@@ -23,3 +23,7 @@ module _ (at : ℕ) (line : List ℕ) (r : Span) {start end : ℕ} (inside : Ins
 
   pub found-is : (name : List ℕ) {b : Bool} → isPart line start end name ≡ b → same (slice start end line) name ≡ b
   found-is name h = let p : Inside at line (Word start end) = place in sym (is-in line start end (omega arith) (omega arith) _) ∙ h
+
+pub whole-is : (l name : List ℕ) {b : Bool} → isPart l 0 (length l) name ≡ b → same l name ≡ b
+whole-is l name h =
+    ap (λ (x : List ℕ). same x name) (sym (take-length l)) ∙ sym (is-in l 0 (length l) (omega arith) (omega arith) name) ∙ h

@@ -1,11 +1,11 @@
 -- A run into three words does one action at the most
-use Prim.Native.Nat.{ℕ, _≤_}
-use mathlib.Core.Path.{_≡_, refl, ap, sym, _∙_}
-use mathlib.Core.List.{List, [], _∷_, _++_, append-nil}
+use Prim.Native.Nat.{ℕ}
+use mathlib.Core.Path.{_≡_, ap, _∙_}
+use mathlib.Core.List.{List, [], _∷_, append-nil}
 use native.Mathlib.Omega.{arith}
 use lib.ListN.{length, getD, take}
 use Rattle.conversation.specs.Conversation.{Conv}
-use Rattle.conversation.specs.Run.{Shown, shownOf, left, runAll}
+use Rattle.conversation.specs.Run.{Shown, shownOf, left}
 use Rattle.conversation.specs.declared.run.Ran.{Ran}
 use Rattle.conversation.proofs.Theorems.{Placed, placed}
 use Rattle.trace.specs.Listing.{Added, actionText}

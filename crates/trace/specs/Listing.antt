@@ -65,3 +65,7 @@ endText (answer.Err e) block actions micros = noText (number e) (values e) actio
 -- 25 and 26, where the listing stops before the end, have no field
 abbrev pub stopText : ℕ → ℕ → ℕ → List ℕ
 stopText number actions micros = (101 ∷ 110 ∷ 100 ∷ 32 ∷ 110 ∷ 111 ∷ 32 ∷ []) ++ decimalDigits number ++ countsText actions micros
+
+-- a host block's words
+abbrev pub leftText : List ℕ → List ℕ
+leftText ws = (108 ∷ 101 ∷ 102 ∷ 116 ∷ []) ++ wordsText ws ++ (10 ∷ [])

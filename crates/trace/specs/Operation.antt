@@ -1,37 +1,68 @@
--- The operation line, word by word
+-- The operation line: a name, then argument words
 use Prim.Native.Nat.{ℕ}
+use mathlib.Core.Bool.{Bool}
 use mathlib.Core.List.{List, [], _∷_}
+use lib.Dec.{eqb, leb}
+use lib.ListN.{length, take}
 use Rattle.hardware.specs.Talk.{pick}
-use Rattle.text.specs.Hex.{hexWord}
 use Rattle.text.specs.Same.{same}
-use Rattle.text.specs.declared.Number.{Number}
-use Rattle.text.specs.declared.Number.the-variants as number
+use Rattle.activity.specs.declared.Asked.{Asked}
 use Rattle.conversation.specs.declared.operation.Operation.{Operation}
-use Rattle.conversation.specs.declared.operation.Operation.the-variants.{Veto, Link, Acquire, Release}
+use Rattle.conversation.specs.declared.operation.Operation.the-variants.{Veto, Link, Acquire, Release, Command, Token, PhyActivity}
+use Rattle.trace.specs.Arguments.{numbers, allNumbers}
 use Rattle.trace.specs.declared.operation.OperationLine.{OperationLine}
 use Rattle.trace.specs.declared.operation.OperationLine.the-variants.{Is, Bad}
 
--- an operation without arguments
-abbrev pub alone : Operation → List (List ℕ) → OperationLine
-alone what [] = Is what
-alone what (w ∷ ws) = Bad
+-- Arguments are taken one by one from the values of the words behind the name. At the end no word is left, and none of them
+-- was a host block's
+unfoldable pub noMore : Operation → List ℕ → OperationLine
+noMore what [] = Is what 0
+noMore what (v ∷ vs) = Bad
 
--- the one argument of an operation
-abbrev pub single : List (List ℕ) → Number
-single [] = number.Nothing
-single (w ∷ []) = hexWord 8 8 w
-single (w ∷ x ∷ ws) = number.Nothing
+-- any word, and what goes on from it
+unfoldable pub withWord : (ℕ → List ℕ → OperationLine) → List ℕ → OperationLine
+withWord next [] = Bad
+withWord next (v ∷ vs) = next v vs
 
-abbrev pub withMask : (ℕ → Operation) → Number → OperationLine
-withMask what (number.Is mask) = Is (what mask)
-withMask what number.Nothing = Bad
+-- a word whose upper half is clear
+unfoldable pub withHalf : (ℕ → List ℕ → OperationLine) → List ℕ → OperationLine
+withHalf next [] = Bad
+withHalf next (v ∷ vs) = pick (leb v 0xffff) (next v vs) Bad
 
--- `veto`, `link`, `acquire`, `release`
+-- 0 or 1
+unfoldable pub withTruth : (Bool → List ℕ → OperationLine) → List ℕ → OperationLine
+withTruth next [] = Bad
+withTruth next (v ∷ vs) = pick (leb v 1) (next (eqb v 1) vs) Bad
+
+-- all words are the host block's
+abbrev pub withBlock : Operation → List ℕ → OperationLine
+withBlock what vs = Is what (length vs)
+
+abbrev pub asked : ℕ → ℕ → ℕ → ℕ → ℕ → Asked
+asked activity d0 d1 d2 d3 = record { activity = activity; «data» = record { w0 = d0; w1 = d1; w2 = d2; w3 = d3 } }
+
+abbrev pub withActivity : List ℕ → OperationLine
+withActivity =
+    withHalf λ activity. withWord λ d0. withWord λ d1. withWord λ d2. withWord λ d3. noMore (PhyActivity (asked activity d0 d1 d2 d3))
+
+-- `command`, `token`, `phy_activity`
+unfoldable pub hostifName : List ℕ → List ℕ → OperationLine
+hostifName w vs =
+    pick (same w (99 ∷ 111 ∷ 109 ∷ 109 ∷ 97 ∷ 110 ∷ 100 ∷ [])) (withBlock Command vs)
+    (pick (same w (116 ∷ 111 ∷ 107 ∷ 101 ∷ 110 ∷ [])) (withTruth (λ take. noMore (Token take)) vs)
+    (pick (same w (112 ∷ 104 ∷ 121 ∷ 95 ∷ 97 ∷ 99 ∷ 116 ∷ 105 ∷ 118 ∷ 105 ∷ 116 ∷ 121 ∷ [])) (withActivity vs)
+    Bad))
+
+-- `veto`, `link`, `acquire`, `release`, or one of the above
+unfoldable pub byName : List ℕ → List ℕ → OperationLine
+byName w vs =
+    pick (same w (118 ∷ 101 ∷ 116 ∷ 111 ∷ [])) (noMore Veto vs)
+    (pick (same w (108 ∷ 105 ∷ 110 ∷ 107 ∷ [])) (noMore Link vs)
+    (pick (same w (97 ∷ 99 ∷ 113 ∷ 117 ∷ 105 ∷ 114 ∷ 101 ∷ [])) (withWord (λ mask. noMore (Acquire mask)) vs)
+    (pick (same w (114 ∷ 101 ∷ 108 ∷ 101 ∷ 97 ∷ 115 ∷ 101 ∷ [])) (withWord (λ mask. noMore (Release mask)) vs)
+    (hostifName w vs))))
+
+-- a name, then numbers alone. No operation takes more than sixteen, so what follows the seventeenth changes nothing
 abbrev pub operationOf : List (List ℕ) → OperationLine
 operationOf [] = Bad
-operationOf (w ∷ ws) =
-    pick (same w (118 ∷ 101 ∷ 116 ∷ 111 ∷ [])) (alone Veto ws)
-    (pick (same w (108 ∷ 105 ∷ 110 ∷ 107 ∷ [])) (alone Link ws)
-    (pick (same w (97 ∷ 99 ∷ 113 ∷ 117 ∷ 105 ∷ 114 ∷ 101 ∷ [])) (withMask Acquire (single ws))
-    (pick (same w (114 ∷ 101 ∷ 108 ∷ 101 ∷ 97 ∷ 115 ∷ 101 ∷ [])) (withMask Release (single ws))
-    Bad)))
+operationOf (w ∷ ws) = pick (allNumbers ws) (byName w (take 17 (numbers ws))) Bad

@@ -3,7 +3,6 @@ use text::Found;
 use text::line_end;
 use text::line_length;
 ghost use mathlib.Core.Path.{_≡_};
-ghost use lib.ListN.{take};
 ghost use Rattle.trace.specs.Lines.{lookAt, restAt, moved};
 
 // What is in the buffer from a place on.

@@ -29,6 +29,7 @@ ghost use Rattle.trace.specs.Listing.{
   noText,
   endText,
   stopText,
+  leftText,
 };
 
 // Bytes at a place that has room for them.
@@ -204,4 +205,13 @@ pub fn stop_line(number: u32, actions: u64, micros: u64, out: &mut [u8; 512]) ->
     let a = add(out, 0, b"end no ");
     let b = add_decimal(out, a, number as u64);
     add_counts(out, b, actions, micros)
+}
+
+// The words that a `command` leaves in its host block.
+pub fn left_line(block: [u32; 16], words: u32, out: &mut [u8; 512]) -> usize
+    ensures { λ r. ⌜ Added (now (out .entry)) 0 (leftText (take words block)) r (now (out .exit)) ⌝ }
+{
+    let a = add(out, 0, b"left");
+    let b = add_block(out, a, block, words);
+    add(out, b, b"\n")
 }

@@ -3,7 +3,6 @@ use crate::listing::action_line;
 use conversation::conversation::Conversation;
 use conversation::conversation::Stop;
 use conversation::run::run;
-ghost use mathlib.Core.Path.{_≡_};
 ghost use Rattle.conversation.specs.Conversation.{convOf};
 ghost use Rattle.trace.specs.Turn.{Turn};
 

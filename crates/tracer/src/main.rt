@@ -4,8 +4,11 @@ ghost use lib.ListN.{length};
 use answers::Answer;
 use conversation::action::uses_of;
 use conversation::conversation::Conversation;
+use conversation::operation::Operation;
 use conversation::operation::Place;
 use hardware::Action;
+use hardware::Port;
+use hardware::Unit;
 use libc::STDIN_FILENO;
 use libc::STDOUT_FILENO;
 use text::Written;
@@ -147,7 +150,7 @@ fn port_at(buf: &[u8], next: Next) -> PortLine {
     trace::port::port_line(&buf[start..end])
 }
 
-fn operation_at(buf: &[u8], next: Next) -> OperationLine {
+fn operation_at(buf: &[u8], next: Next, args: &mut [u32; 17]) -> OperationLine {
     let Next::Line(start, end) = next else {
         return OperationLine::Bad;
     };
@@ -157,7 +160,7 @@ fn operation_at(buf: &[u8], next: Next) -> OperationLine {
     if end > buf.len() {
         return OperationLine::Bad;
     }
-    trace::operation::operation_line(&buf[start..end])
+    trace::operation::operation_line(&buf[start..end], args)
 }
 
 // What the pending action is answered: nothing for a wait, a reply's two words, or that the listing stops with a number.
@@ -240,6 +243,42 @@ fn last(answer: Answer, c: Conversation, out: &mut [u8], n: usize) -> usize {
     print(out, n, &line, len)
 }
 
+fn print_left(host: [u32; 16], words: u32, out: &mut [u8], n: usize) -> usize {
+    let mut line = [0u8; 512];
+    let len = trace::listing::left_line(host, words, &mut line);
+    print(out, n, &line, len)
+}
+
+// The host block as an ended `command` leaves it, after errors too. The listing has it after `end ok` alone.
+fn left(c: Conversation, words: usize, out: &mut [u8], n: usize) -> usize {
+    if words == 0 {
+        return n;
+    }
+    if words > 16 {
+        return n;
+    }
+    let mut host = [0u32; 16];
+    if let Unit::Err(_) = c.hand_back(&mut host[0..words]) {
+        return n;
+    }
+    print_left(host, words as u32, out, n)
+}
+
+fn ended(
+    answer: Answer,
+    words: usize,
+    c: Conversation,
+    asked: bool,
+    out: &mut [u8],
+    n: usize,
+) -> usize {
+    let end = last(answer, c, out, n);
+    if asked {
+        return left(c, words, out, end);
+    }
+    end
+}
+
 struct Moved {
     to: Conversation,
     n: usize,
@@ -269,7 +308,7 @@ fn go_on(c: Conversation, due: Due, out: &mut [u8], n: usize) -> Moved {
 }
 
 // The conversation, action by action. No conversation is as long as the turns that are counted down.
-fn talk(c: Conversation, buf: &mut [u8], input: Input, out: &mut [u8]) -> usize {
+fn talk(c: Conversation, buf: &mut [u8], input: Input, out: &mut [u8], asked: bool) -> usize {
     let mut m = Moved { to: c, n: 0 };
     let mut now = input;
     let mut turns: u64 = u64::MAX;
@@ -293,32 +332,43 @@ fn talk(c: Conversation, buf: &mut [u8], input: Input, out: &mut [u8]) -> usize 
     let n = m.n;
     let place = to.place;
     match place {
-        Place::Ended(answer) => last(answer, to, out, n),
+        Place::Ended(answer, words) => ended(answer, words, to, asked, out, n),
         Place::Asks(_, _) => n,
     }
+}
+
+// The first words of the buffer are the host block.
+fn begin(port: Port, what: Operation, args: &[u32], words: usize) -> Conversation {
+    if words > args.len() {
+        return Conversation::begin(port, what, args);
+    }
+    Conversation::begin(port, what, &args[0..words])
 }
 
 // Both lines are read before anything else.
 fn listing(
     port: PortLine,
     what: OperationLine,
+    args: &[u32; 17],
     buf: &mut [u8],
     input: Input,
     out: &mut [u8],
+    asked: bool,
 ) -> usize {
     let PortLine::Is(p) = port else {
         return stop(BAD_LINE, 0, 0, out, 0);
     };
-    let OperationLine::Is(operation) = what else {
+    let OperationLine::Is(operation, words) = what else {
         return stop(BAD_LINE, 0, 0, out, 0);
     };
-    let none = [0u32; 2];
-    talk(
-        Conversation::begin(p, operation, &none[0..0]),
-        buf,
-        input,
-        out,
-    )
+    talk(begin(p, operation, args, words), buf, input, out, asked)
+}
+
+// The argument `left` asks for one line more.
+fn asks_for_left() -> bool {
+    let mut word = [0u8; 8];
+    let len = os::arg(1, &mut word);
+    text::is(&word, 0, len, b"left")
 }
 
 fn main() {
@@ -338,7 +388,8 @@ fn main() {
     let second = fetch(&mut buf, rest);
     let line = second.next;
     let rest = second.input;
-    let what = operation_at(&buf, line);
-    let n = listing(port, what, &mut buf, rest, &mut out);
+    let mut args = [0u32; 17];
+    let what = operation_at(&buf, line, &mut args);
+    let n = listing(port, what, &args, &mut buf, rest, &mut out, asks_for_left());
     flush(&out, n);
 }

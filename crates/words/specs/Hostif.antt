@@ -1,7 +1,11 @@
--- Words of the host interface: byte order, and how long a reply may be
+-- Words of the host interface: where they stand, byte order, and how long a reply may be
 use Prim.Native.Nat.{ℕ, _+_, _*_, _/_, _%_, _^_}
 use mathlib.Core.Bool.{Bool}
 use lib.Dec.{leb}
+
+-- the register of the host block's word i; past 32 bits it wraps
+abbrev pub flexMng : ℕ → ℕ
+flexMng i = (0x15800 + 4 * i) % 2 ^ 32
 
 -- byte i of a word, the lowest is byte 0
 abbrev pub byte : ℕ → ℕ → ℕ

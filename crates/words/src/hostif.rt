@@ -1,6 +1,16 @@
-// hostif.rs and x552.rs `nvm_word`: byte order, and the length of a reply.
+// hostif.rs and x552.rs `nvm_word`: where the words stand, byte order, and the length of a reply.
 ghost use mathlib.Core.Path.{_≡_};
-ghost use Rattle.words.specs.Hostif.{swapBytes, nvmAddress, fits, replyWords};
+ghost use Rattle.words.specs.Hostif.{flexMng, swapBytes, nvmAddress, fits, replyWords};
+
+pub const FLEX_MNG: u32 = 0x15800;
+
+// The register of the host block's word i. A block above 2^30 words wraps, as in the Rust's release build.
+pub fn flex_mng(i: usize) -> u32
+    ensures { λ r. ⌜ flexMng i ≡ r ⌝ }
+{
+    let low = (i % 0x4000_0000) as u32;
+    std::num::wrapping_add_u32(FLEX_MNG, 4 * low)
+}
 
 pub fn swap_bytes(word: u32) -> u32
     ensures { λ r. ⌜ swapBytes word ≡ r ⌝ }

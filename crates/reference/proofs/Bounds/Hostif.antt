@@ -11,7 +11,7 @@ use Rattle.hardware.specs.Block as blk
 use Rattle.hardware.specs.declared.Error.the-variants.{Firmware}
 use Rattle.hardware.specs.declared.Port.{Port}
 use Rattle.hardware.proofs.Bounds.{within-more, within-then, within-pick}
-use Rattle.words.specs.Hostif.{fits, replyWords}
+use Rattle.words.specs.Hostif.{flexMng, fits, replyWords}
 use Rattle.answers.specs.declared.Words.{Words}
 use Rattle.reference.specs.Sync.{withBlock}
 use Rattle.reference.specs.Hostif.{posted, hicrTurn, started, writeTurn, writeWords, post, replyLength, replyStatus, restTurn, rest, received, exchange, command, tokenStatus, token, activityBlock, activityTurn, phyActivity}
@@ -32,7 +32,7 @@ of-started : (hicr : ℕ) → Within (started hicr) 100001 500000
 of-started hicr = of-bind (of-write 0x15f00 _) (λ _. of-carry hicrTurn posted 2 10 50000 0 0 hicr-turn of-posted _)
 
 write-turn : (block : List ℕ) (f : ℕ → Call ℕ) (n m : ℕ) → ((i : ℕ) → Within (f i) n m) → (i : ℕ) → Within (writeTurn block f i) (1 + n) (0 + m)
-write-turn block f n m w i = of-bind (of-write (0x15800 + 4 * i) (getD block i 0)) (λ _. w (i + 1))
+write-turn block f n m w i = of-bind (of-write (flexMng i) (getD block i 0)) (λ _. w (i + 1))
 
 of-words : (block : List ℕ) (hicr : ℕ) → Within (writeWords block hicr 0) (length block + 100001) 500000
 of-words block hicr =
@@ -51,7 +51,7 @@ of-post block =
 rest-turn : (status : ℕ) (f : ℕ → List ℕ → Talk (Res ℕ × List ℕ)) (n m : ℕ) → ((i : ℕ) (b : List ℕ) → Within (f i b) n m)
     → (i : ℕ) (b : List ℕ) → Within (restTurn status f i b) (1 + n) (0 + m)
 rest-turn status f n m w i b =
-    within-pick (ltb i (length b)) (of-lent (of-keep b (of-raw (0x15800 + 4 * i))) (λ v c. w (i + 1) (set c i v))) at-end
+    within-pick (ltb i (length b)) (of-lent (of-keep b (of-raw (flexMng i))) (λ v c. w (i + 1) (set c i v))) at-end
 
 of-rest : (x status i : ℕ) (b : List ℕ) → x ≤ 64 → Within (rest x status i b) 64 0
 of-rest x status i b h =

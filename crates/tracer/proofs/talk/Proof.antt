@@ -5,10 +5,10 @@ use Rattle.tracer.proofs.talk.Statement.{statement}
 use Rattle.tracer.proofs.talk.Tie as tie
 
 abbrev Inv-loop : tie.InvT-loop
-Inv-loop buf₀ out₀ m₀ now₀ turns₀ buf out m now turns = (length buf ≡ length buf₀) × (length out ≡ length out₀)
+Inv-loop buf₀ out₀ asked m₀ now₀ turns₀ buf out m now turns = (length buf ≡ length buf₀) × (length out ≡ length out₀)
 
 abbrev μ-loop : tie.MeasureT-loop
-μ-loop buf₀ out₀ m₀ now₀ turns₀ buf out m now turns = turns
+μ-loop buf₀ out₀ asked m₀ now₀ turns₀ buf out m now turns = turns
 
 loop-holds : tie.Need-loop-holds Inv-loop μ-loop
 loop-holds c = search needs
@@ -52,8 +52,8 @@ loop-again c = search needs
 enum-known-place-2 : tie.Need-enum-known-place-2 Inv-loop μ-loop
 enum-known-place-2 c = search needs
 
-last-requires : tie.Need-last-requires Inv-loop μ-loop
-last-requires c κs = search needs
+ended-requires : tie.Need-ended-requires Inv-loop μ-loop
+ended-requires c κs = search needs
 
 enum-told-2 : tie.Need-enum-told-2 Inv-loop μ-loop
 enum-told-2 c = search needs
@@ -96,7 +96,7 @@ talk-spec =
     loop-less
     loop-again
     enum-known-place-2
-    last-requires
+    ended-requires
     enum-told-2
     same-length-3
     same-length-4

@@ -26,7 +26,7 @@ copied-spec =
     (λ c. (
       omega arith,
       rw (c .before .before .loop .inv .1)
-          (copy-suc (c .before .before .before .args .block .now) (c .before .before .loop .i) (omega arith) (omega arith)),
+          (copy-suc (replicate 16 0) (c .before .before .before .args .block .now) (c .before .before .loop .i) (omega arith) (omega arith)),
     ))
     (λ c. let e : c .before .loop .i ≡ length (c .before .before .args .block .now) = omega arith in
     c .before .loop .inv .1 ∙ rw e (simp (take-length, zero-add))))

@@ -1,12 +1,12 @@
 -- The loop's invariant: what is left to be read, from what has been counted and kept so far
 use Prim.Native.Nat.{ℕ, _+_, _-_, _≤_}
 use mathlib.Core.Path.{_≡_, ap, sym, _∙_}
-use mathlib.Core.List.{List, _∷_}
+use mathlib.Core.List.{List}
 use native.Mathlib.Nat.{zero-add}
 use native.Mathlib.Omega.{arith}
 use borrow.Author.Needs.{needs}
 use lib.ListN.{length, drop, length-set}
-use lib.Seq.{sets, slice}
+use lib.Seq.{sets}
 use Rattle.text.specs.Words.{words, found}
 use Rattle.trace.specs.Arguments.{numbers, argumentsOf}
 use Rattle.trace.proofs.ArgumentLaws.{argumentsFrom, none-left, no-number, no-value, one-read, one-kept}

@@ -1,8 +1,6 @@
-use Prim.Native.Nat.{_≤_}
-use mathlib.Core.Path.{_≡_, sym}
+use mathlib.Core.Path.{sym}
 use native.Mathlib.Omega.{arith}
 use borrow.Author.Needs.{needs}
-use lib.ListN.{length}
 use lib.Seq.{length-take-le, take-all}
 use Rattle.trace.proofs.listing.add_block.Statement.{statement}
 use Rattle.trace.proofs.listing.add_block.Tie as tie

@@ -1,5 +1,10 @@
+use mathlib.Core.Path.{ap, _∙_}
+use native.Mathlib.Omega.{arith}
 use borrow.Author.Needs.{needs}
-use Rattle.trace.proofs.Laws.{found-is}
+use Rattle.text.specs.Words.{found}
+use Rattle.text.proofs.PartLaws.{part-slice}
+use Rattle.trace.proofs.Laws.{place}
+use Rattle.trace.proofs.OperationLaws.{kept, not-read, are-read}
 use Rattle.trace.proofs.operation.operation_line.Statement.{statement}
 use Rattle.trace.proofs.operation.operation_line.Tie as tie
 
@@ -10,21 +15,20 @@ operation-line-spec =
     (λ c κs. search needs)
     (λ c. search needs)
     (λ c. search needs)
-    (λ c. simp (c .before .before .word .ensures .0, c .enum-told .given .1))
+    (λ c. (simp (c .before .before .word .ensures .0, c .enum-told .given .1), simp (c .before .before .word .ensures .0, c .enum-told .given .1)))
+    (λ c κs. search needs)
     (λ c. search needs)
-    (λ c κs. search needs)
-    (λ c κs. search needs)
-    (λ c. simp (c .before .before .before .before .before .before .before .word .ensures .0, c .before .before .before .before .before .start .given .1, found-is _ _ _ (c .before .before .before .before .before .before .before .word .ensures .1) (c .before .before .before .before .before .start .given .1) _ (c .before .before .is .ensures), c .before .if1 .taken, c .alone-at .ensures))
     (λ c. search needs)
+    (λ c. let s = c .before .before .before .before .before .before .before .before .before .args in let e = c .before .before .before .before .before .before .before .word .ensures .0 ∙ ap (found (s .line .now)) (c .before .before .before .before .before .start .given .1) in (
+      not-read e (c .before .before .read .ensures .0 ∙ c .enum-told2 .given .1),
+      kept e (s .args .now) (c .before .before .read .ensures .1),
+    ))
+    (λ c. omega (arith, place _ _ _ (c .before .before .before .before .before .before .before .before .word .ensures .1) (c .before .before .before .before .before .before .start .given .1)))
+    (λ c. omega (arith, place _ _ _ (c .before .before .before .before .before .before .before .before .word .ensures .1) (c .before .before .before .before .before .before .start .given .1)))
+    (λ c. omega (arith, place _ _ _ (c .before .before .before .before .before .before .before .before .word .ensures .1) (c .before .before .before .before .before .before .start .given .1)))
     (λ c κs. search needs)
-    (λ c κs. search needs)
-    (λ c. simp (c .before .before .before .before .before .before .before .before .before .before .word .ensures .0, c .before .before .before .before .before .before .before .before .start .given .1, found-is _ _ _ (c .before .before .before .before .before .before .before .before .before .before .word .ensures .1) (c .before .before .before .before .before .before .before .before .start .given .1) _ (c .before .before .before .before .before .is .ensures), c .before .before .before .before .if1 .left, found-is _ _ _ (c .before .before .before .before .before .before .before .before .before .before .word .ensures .1) (c .before .before .before .before .before .before .before .before .start .given .1) _ (c .before .before .is2 .ensures), c .before .if2 .taken, c .alone-at2 .ensures))
-    (λ c. search needs)
-    (λ c κs. search needs)
-    (λ c κs. search needs)
-    (λ c. simp (c .before .before .before .before .before .before .before .before .before .before .before .before .before .word .ensures .0, c .before .before .before .before .before .before .before .before .before .before .before .start .given .1, found-is _ _ _ (c .before .before .before .before .before .before .before .before .before .before .before .before .before .word .ensures .1) (c .before .before .before .before .before .before .before .before .before .before .before .start .given .1) _ (c .before .before .before .before .before .before .before .before .is .ensures), c .before .before .before .before .before .before .before .if1 .left, found-is _ _ _ (c .before .before .before .before .before .before .before .before .before .before .before .before .before .word .ensures .1) (c .before .before .before .before .before .before .before .before .before .before .before .start .given .1) _ (c .before .before .before .before .before .is2 .ensures), c .before .before .before .before .if2 .left, found-is _ _ _ (c .before .before .before .before .before .before .before .before .before .before .before .before .before .word .ensures .1) (c .before .before .before .before .before .before .before .before .before .before .before .start .given .1) _ (c .before .before .is3 .ensures), c .before .if3 .taken, c .acquire-at .ensures))
-    (λ c. search needs)
-    (λ c κs. search needs)
-    (λ c κs. search needs)
-    (λ c. simp (c .before .before .before .before .before .before .before .before .before .before .before .before .before .before .before .before .word .ensures .0, c .before .before .before .before .before .before .before .before .before .before .before .before .before .before .start .given .1, found-is _ _ _ (c .before .before .before .before .before .before .before .before .before .before .before .before .before .before .before .before .word .ensures .1) (c .before .before .before .before .before .before .before .before .before .before .before .before .before .before .start .given .1) _ (c .before .before .before .before .before .before .before .before .before .before .before .is .ensures), c .before .before .before .before .before .before .before .before .before .before .if1 .left, found-is _ _ _ (c .before .before .before .before .before .before .before .before .before .before .before .before .before .before .before .before .word .ensures .1) (c .before .before .before .before .before .before .before .before .before .before .before .before .before .before .start .given .1) _ (c .before .before .before .before .before .before .before .before .is2 .ensures), c .before .before .before .before .before .before .before .if2 .left, found-is _ _ _ (c .before .before .before .before .before .before .before .before .before .before .before .before .before .before .before .before .word .ensures .1) (c .before .before .before .before .before .before .before .before .before .before .before .before .before .before .start .given .1) _ (c .before .before .before .before .before .is3 .ensures), c .before .before .before .before .if3 .left, found-is _ _ _ (c .before .before .before .before .before .before .before .before .before .before .before .before .before .before .before .before .word .ensures .1) (c .before .before .before .before .before .before .before .before .before .before .before .before .before .before .start .given .1) _ (c .before .before .is4 .ensures), c .before .if4 .taken, c .release-at .ensures))
-    (λ c. simp (c .before .before .before .before .before .before .before .before .before .before .before .before .before .before .before .word .ensures .0, c .before .before .before .before .before .before .before .before .before .before .before .before .before .start .given .1, found-is _ _ _ (c .before .before .before .before .before .before .before .before .before .before .before .before .before .before .before .word .ensures .1) (c .before .before .before .before .before .before .before .before .before .before .before .before .before .start .given .1) _ (c .before .before .before .before .before .before .before .before .before .before .is .ensures), c .before .before .before .before .before .before .before .before .before .if1 .left, found-is _ _ _ (c .before .before .before .before .before .before .before .before .before .before .before .before .before .before .before .word .ensures .1) (c .before .before .before .before .before .before .before .before .before .before .before .before .before .start .given .1) _ (c .before .before .before .before .before .before .before .is2 .ensures), c .before .before .before .before .before .before .if2 .left, found-is _ _ _ (c .before .before .before .before .before .before .before .before .before .before .before .before .before .before .before .word .ensures .1) (c .before .before .before .before .before .before .before .before .before .before .before .before .before .start .given .1) _ (c .before .before .before .before .is3 .ensures), c .before .before .before .if3 .left, found-is _ _ _ (c .before .before .before .before .before .before .before .before .before .before .before .before .before .before .before .word .ensures .1) (c .before .before .before .before .before .before .before .before .before .before .before .before .before .start .given .1) _ (c .before .is4 .ensures), c .if4 .left)))
+    (λ c. let s = c .before .before .before .before .before .before .before .before .before .before .before .before .before .before .args in let e = c .before .before .before .before .before .before .before .before .before .before .before .before .word .ensures .0 ∙ ap (found (s .line .now)) (c .before .before .before .before .before .before .before .before .before .before .start .given .1) in (
+      are-read e (s .args .now) (c .before .before .before .before .before .before .before .read .ensures .0 ∙ c .before .before .before .before .before .n .given .1) (search needs)
+          (rw (part-slice, c .before .before .before .before .before .before .before .read .ensures .1) at (c .named-from .ensures)),
+      kept e (s .args .now) (c .before .before .before .before .before .before .before .read .ensures .1),
+    )))

@@ -10,5 +10,4 @@ ask-spec =
     (tie.spec
     (λ c κs. search needs)
     (λ c κs. search needs)
-    (λ c. search needs)
-    (λ c. simp (c .before .before .before .start .ensures, c .asked .ensures)))
+    (λ c. simp (c .before .start .ensures, c .asked .ensures)))

@@ -15,7 +15,6 @@ bits-spec =
     (λ c. search needs)
     (λ c κs. search needs)
     (λ c. simp (c .before .enum-told .given .1, c .plain .ensures))
-    (λ c. search needs)
-    (λ c. simp (c .before .before .before .before .before .place .given .1, c .before .before .taken .ensures))
+    (λ c. simp (c .before .before .before .place .given .1, c .taken .ensures))
     (λ c. simp (c .before .before .place2 .given .1, c .freed .ensures))
     (λ c. simp (c .before .before .place3 .given .1, c .returned .ensures)))

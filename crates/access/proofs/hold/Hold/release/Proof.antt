@@ -1,12 +1,11 @@
 use borrow.Author.Needs.{needs}
 use borrow.Author.Tests.{eq-eqb, ne-eqb}
 use Rattle.reference.specs.Acquire.{release}
-use Rattle.reference.specs.Mdio.{mask}
 use Rattle.access.proofs.hold.Hold.release.Statement.{statement}
 use Rattle.access.proofs.hold.Hold.release.Tie as tie
 
 pub release-spec : {M : Type 1} → statement M
-unfolding mask release
+unfolding release
 release-spec =
     tie.close
     (tie.spec
@@ -14,5 +13,4 @@ release-spec =
     (λ c κs. search needs)
     (λ c κs. search needs)
     (λ c. simp (eq-eqb _ _ (c .before .if1 .taken), c .rest .ensures))
-    (λ c. search needs)
-    (λ c. simp (ne-eqb _ _ (c .before .before .before .before .before .if1 .left), c .before .before .before .start .ensures, c .gave .ensures)))
+    (λ c. simp (ne-eqb _ _ (c .before .before .before .if1 .left), c .before .start .ensures, c .gave .ensures)))

@@ -12,6 +12,5 @@ taken-spec =
     (λ c κs. search needs)
     (λ c. search needs)
     (λ c. simp (c .before .step .given .1))
-    (λ c. search needs)
-    (λ c. simp (c .before .before .before .before .before .before .before .step2 .given .1, c .before .before .before .before .enum-told .given .1, c .before .before .ask .ensures))
+    (λ c. simp (c .before .before .before .before .before .step2 .given .1, c .before .before .enum-told .given .1, c .ask .ensures))
     (λ c. simp (c .before .before .before .before .step2 .given .1, c .before .r .given .1)))

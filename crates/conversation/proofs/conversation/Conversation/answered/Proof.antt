@@ -10,4 +10,4 @@ answered-spec =
     (λ c κs. search needs)
     (λ c κs. search needs)
     (λ c κs. search needs)
-    (λ c. simp (c .before .before .before .wrapping-add-u64 .ensures, c .before .before .waited-of .ensures, c .before .wrapping-add-u642 .ensures, c .resumed .ensures)))
+    (λ c. simp (c .before .before .before .next .ensures, c .before .before .wrapping-add-u64 .ensures, c .before .waited-of .ensures, c .wrapping-add-u642 .ensures)))

@@ -2,6 +2,7 @@ use mathlib.Core.Path.{_∙_, ap}
 use Rattle.hardware.proofs.Refusal.{taken}
 use Rattle.hardware.specs.Told.{unitOf}
 use borrow.Author.Needs.{needs}
+use Rattle.conversation.proofs.Laws.{not-refused}
 use Rattle.conversation.proofs.conversation.Conversation.begin.Statement.{statement}
 use Rattle.conversation.proofs.conversation.Conversation.begin.Tie as tie
 
@@ -26,9 +27,6 @@ enum-told c = search needs
 copied-requires : tie.Need-copied-requires
 copied-requires c κs = taken _ _ _ _ (c .before .before .refusal .ensures ∙ ap unitOf (c .enum-told .given .1)) .words
 
-slice-aggregate-start : tie.Need-slice-aggregate-start
-slice-aggregate-start c = search needs
-
 start-requires : tie.Need-start-requires
 start-requires c κs = search needs
 
@@ -36,7 +34,15 @@ returns : tie.Need-returns
 returns c = simp (c .before .before .before .before .before .before .phy .ensures, c .before .before .before .before .before .device .ensures, c .before .before .before .before .refusal .ensures, c .before .before .e .given .1, c .refused .ensures)
 
 returns-2 : tie.Need-returns-2
-returns-2 c = simp (c .before .before .before .before .before .before .before .before .phy .ensures, c .before .before .before .before .before .before .before .device .ensures, c .before .before .before .before .before .before .refusal .ensures, c .before .before .before .before .enum-told .given .1, c .before .start .ensures)
+returns-2 c =
+    let start = c .before .before .before .before .before .before .before .before .before in
+    let refused = c .before .before .before .before .before in
+    not-refused (start .args .port) (start .args .what) (start .args .block .now) (c .before .before .copied .result)
+    (refused .before .before .phy .ensures)
+    (refused .before .device .ensures)
+    (refused .refusal .ensures ∙ ap unitOf (c .before .before .before .enum-told .given .1))
+    (c .before .before .copied .ensures)
+    (c .start .ensures)
 
 pub begin-spec : {M : Type 1} → statement M
 begin-spec =
@@ -49,7 +55,6 @@ begin-spec =
     refused-requires
     enum-told
     copied-requires
-    slice-aggregate-start
     start-requires
     returns
     returns-2)

@@ -6,14 +6,6 @@ pub next-spec : {M : Type 1} → statement M
 next-spec =
     tie.close
     (tie.spec
-    (λ c. search needs)
-    (λ c κs. search needs)
-    (λ c. search needs)
-    (λ c κs. search needs)
-    (λ c. search needs)
     (λ c κs. search needs)
     (λ c κs. search needs)
-    (λ c. simp (c .before .enum-told .given .1, c .veto .ensures))
-    (λ c. simp (c .before .enum-told2 .given .1, c .link .ensures))
-    (λ c. search needs)
-    (λ c. simp (c .before .before .before .before .before .before .self .given .1, c .before .before .before .next .ensures, c .held .ensures)))
+    (λ c. simp (c .before .before .next .ensures, c .stepped .ensures)))

@@ -1,18 +1,8 @@
-use borrow.Author.Needs.{needs}
+use mathlib.Core.Path.{refl}
 use Rattle.conversation.specs.Conversation.{phyOf}
 use Rattle.conversation.proofs.operation.Operation.phy.Statement.{statement}
 use Rattle.conversation.proofs.operation.Operation.phy.Tie as tie
 
 pub phy-spec : {M : Type 1} → statement M
 unfolding phyOf
-phy-spec =
-    tie.close
-    (tie.spec
-    (λ c. search needs)
-    (λ c. search needs)
-    (λ c. search needs)
-    (λ c. search needs)
-    (λ c. simp (c .enum-told .given .1))
-    (λ c. simp (c .enum-told2 .given .1))
-    (λ c. simp (c .enum-told3 .given .1))
-    (λ c. simp (c .enum-told4 .given .1)))
+phy-spec = tie.close (tie.spec (λ c. refl))

@@ -1,4 +1,5 @@
 use borrow.Author.Needs.{needs}
+use Rattle.operations.proofs.Laws.{nothing-begun, command-begun, token-begun}
 use Rattle.conversation.proofs.operation.Operation.start.Statement.{statement}
 use Rattle.conversation.proofs.operation.Operation.start.Tie as tie
 
@@ -7,16 +8,29 @@ start-spec =
     tie.close
     (tie.spec
     (λ c. search needs)
+    (λ c κs. search needs)
     (λ c. search needs)
+    (λ c κs. search needs)
     (λ c. search needs)
     (λ c κs. search needs)
     (λ c κs. search needs)
     (λ c. search needs)
     (λ c κs. search needs)
     (λ c κs. search needs)
-    (λ c. simp (c .enum-told .given .1))
-    (λ c. simp (c .enum-told2 .given .1))
     (λ c. search needs)
-    (λ c. simp (c .before .before .before .before .before .before .self .given .1, c .before .before .before .acquire .ensures, c .held .ensures))
+    (λ c κs. search needs)
+    (λ c κs. search needs)
     (λ c. search needs)
-    (λ c. simp (c .before .before .before .before .before .before .self2 .given .1, c .before .before .before .release .ensures, c .held2 .ensures)))
+    (λ c κs. search needs)
+    (λ c κs. search needs)
+    (λ c. search needs)
+    (λ c κs. search needs)
+    (λ c κs. search needs)
+    (λ c κs. search needs)
+    (λ c. simp (c .before .enum-told .given .1, c .begun .ensures))
+    (λ c. simp (c .before .enum-told2 .given .1, c .begun2 .ensures))
+    (λ c. simp (c .before .before .before .before .before .self .given .1, c .before .before .acquire .ensures, c .stepped .ensures, nothing-begun))
+    (λ c. simp (c .before .before .before .before .before .self2 .given .1, c .before .before .release .ensures, c .stepped2 .ensures, nothing-begun))
+    (λ c. simp (c .before .before .before .before .enum-told3 .given .1, c .before .count .ensures, c .begun3 .ensures, command-begun))
+    (λ c. simp (c .before .before .before .before .self3 .given .1, c .before .put .ensures, c .begun4 .ensures, token-begun))
+    (λ c. simp (c .before .before .before .before .before .self4 .given .1, c .before .before .start .ensures, c .before .activity .ensures, c .decided .ensures)))

@@ -9,8 +9,7 @@ again-rest-spec =
     tie.close
     (tie.spec
     (λ c. simp (block-none (c .if1 .taken)))
+    (λ c κs. search needs)
     (λ c. search needs)
-    (λ c. search needs)
-    (λ c. search needs)
-    (λ c. simp (block-more (c .before .if1 .left), lt-ltb _ _ (c .if2 .taken)))
+    (λ c. simp (block-more (c .before .before .if1 .left), lt-ltb _ _ (c .before .if2 .taken), c .flex-mng .ensures))
     (λ c. simp (block-more (c .before .if1 .left), le-ltb _ _ (c .if2 .left))))

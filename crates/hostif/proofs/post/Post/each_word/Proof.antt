@@ -7,10 +7,9 @@ pub each-word-spec : {M : Type 1} → statement M
 each-word-spec =
     tie.close
     (tie.spec
+    (λ c κs. search needs)
     (λ c. search needs)
     (λ c. search needs)
     (λ c. search needs)
-    (λ c. search needs)
-    (λ c. search needs)
-    (λ c. simp (each-more (c .before .if1 .taken)))
+    (λ c. simp (each-more (c .before .before .if1 .taken), c .before .flex-mng .ensures))
     (λ c. simp (each-none (c .if1 .left))))

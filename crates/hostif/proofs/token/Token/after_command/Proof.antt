@@ -8,10 +8,6 @@ after-command-spec =
     (tie.spec
     (λ c. search needs)
     (λ c. search needs)
-    (λ c. search needs)
-    (λ c. search needs)
-    (λ c. search needs)
     (λ c κs. search needs)
     (λ c. λ b. simp (c .before .step .given .1))
-    (λ c. λ b. simp (c .before .before .before .before .step2 .given .1, c .before .r .given .1))
-    (λ c. λ b. simp (c .before .before .before .before .before .step2 .given .1, c .before .before .r2 .given .1, c .status .ensures)))
+    (λ c. λ b. simp (c .before .before .step2 .given .1, c .answered .ensures)))

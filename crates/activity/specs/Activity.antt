@@ -1,0 +1,42 @@
+-- What a suspended `phy_activity` still says, from what its job gives
+use Prim.Native.Nat.{ℕ, _%_}
+use mathlib.Core.List.{List}
+use lib.Dec.{eqb}
+use Rattle.hardware.specs.Talk.{Call, Res, ok, err, end, andThen, pick, _>>=_, _>>_, delay, return}
+use Rattle.hardware.specs.declared.Port.{Port}
+use Rattle.answers.specs.declared.Words.{Words}
+use Rattle.reference.specs.Hostif.{activityBlock, activityTimes, activityWords, phyActivity}
+use Rattle.access.specs.Access.{jobTalk}
+use Rattle.activity.specs.declared.Activity.{Activity}
+use Rattle.activity.specs.declared.Activity.the-variants as activity
+use Rattle.activity.specs.declared.ActivityStep.{ActivityStep}
+use Rattle.activity.specs.declared.ActivityStep.the-variants as activitystep
+use Rattle.activity.specs.declared.Asked.{Asked}
+use Rattle.activity.specs.declared.Found.{Found}
+use Rattle.activity.specs.declared.Found.the-variants as found
+
+-- the Rust's functions, of these arguments
+abbrev pub blockOf : Port → Asked → List ℕ
+blockOf port asked =
+    activityBlock port (asked .activity) (asked .data .w0) (asked .data .w1) (asked .data .w2) (asked .data .w3)
+
+abbrev pub activityOf : Port → Asked → Call Words
+activityOf port asked = phyActivity port (asked .activity) (asked .data .w0) (asked .data .w1) (asked .data .w2) (asked .data .w3)
+
+abbrev pub foundOf : Found → Res Words
+foundOf (found.Ok v) = ok v
+foundOf (found.Err e) = err e
+
+-- the command has ended; its status is a byte (hostif's proofs/Bytes.antt), of any other word the lowest byte is
+abbrev pub activityByte : Port → Asked → ℕ → Res ℕ → List ℕ → Call Words
+activityByte port asked n got ws =
+    end got
+    >>= λ status. pick (eqb (status % 256) 1) (return (activityWords ws)) (delay 20 >> activityTimes port (blockOf port asked) n (status % 256))
+
+abbrev pub resumeActivity : Port → Asked → Activity → Res ℕ → List ℕ → Call Words
+resumeActivity port asked (activity.Exchanging n) got ws = activityByte port asked n got ws
+resumeActivity port asked (activity.Pausing n status) got ws = end got >>= λ _. activityTimes port (blockOf port asked) n status
+
+abbrev pub toldActivity : Port → Asked → List ℕ → ActivityStep → Call Words
+toldActivity port asked b (activitystep.Ask job s) = andThen (jobTalk port job b) (λ p. resumeActivity port asked s (p .0) (p .1))
+toldActivity port asked b (activitystep.Done r) = end (foundOf r)

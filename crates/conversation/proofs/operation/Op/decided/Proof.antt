@@ -1,0 +1,13 @@
+use borrow.Author.Needs.{needs}
+use Rattle.conversation.proofs.operation.Op.decided.Statement.{statement}
+use Rattle.conversation.proofs.operation.Op.decided.Tie as tie
+
+pub decided-spec : {M : Type 1} → statement M
+decided-spec =
+    tie.close
+    (tie.spec
+    (λ c. search needs)
+    (λ c κs. search needs)
+    (λ c. search needs)
+    (λ c. λ b. simp (c .before .before .step .given .1, c .begun .ensures))
+    (λ c. λ b. simp (c .before .step2 .given .1)))

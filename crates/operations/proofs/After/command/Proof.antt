@@ -1,0 +1,13 @@
+use borrow.Author.Needs.{needs}
+use Rattle.operations.proofs.After.command.Statement.{statement}
+use Rattle.operations.proofs.After.command.Tie as tie
+
+pub command-spec : {M : Type 1} → statement M
+command-spec =
+    tie.close
+    (tie.spec
+    (λ c. search needs)
+    (λ c. search needs)
+    (λ c. search needs)
+    (λ c. λ b. simp (c .before .got .given .1))
+    (λ c. λ b. simp (c .before .got2 .given .1)))
