@@ -2,14 +2,16 @@
 use Prim.Native.Nat.{ℕ}
 use mathlib.Core.List.{List, []}
 use lib.ListN.{take}
-use Rattle.hardware.specs.Talk.{Talk, Call, Res, ok, err, ask, end, andThen, _>>=_, _>>_, read, delay, return, checked}
+use Rattle.hardware.specs.Talk.{Talk, Call, Res, ok, ask, end, read, delay, checked}
 use Rattle.hardware.specs.Block.{keep}
 use Rattle.hardware.specs.Told.{wordOf}
 use Rattle.hardware.specs.declared.Port.{Port}
 use Rattle.hardware.specs.declared.Reply.{Reply}
 use Rattle.reference.specs.Hostif.{command}
+use Rattle.reference.specs.Mdio.{mask, readReg, writeReg}
 use Rattle.hostif.specs.Command.{resumeCommand}
-use Rattle.access.specs.Hold.{resumeHold}
+use Rattle.mdio.specs.declared.mdio.Wanted.{Wanted}
+use Rattle.access.specs.Locked.{zeroed, lockedTalk, resumeLocked}
 use Rattle.access.specs.declared.access.Job.{Job}
 use Rattle.access.specs.declared.access.Job.the-variants as job
 use Rattle.access.specs.declared.access.Access.{Access}
@@ -17,24 +19,26 @@ use Rattle.access.specs.declared.access.Access.the-variants as access
 use Rattle.access.specs.declared.access.AccessStep.{AccessStep}
 use Rattle.access.specs.declared.access.AccessStep.the-variants as accessstep
 
-abbrev pub zeroOf : Res (Unit {0}) → Res ℕ
-zeroOf (ok _) = ok 0
-zeroOf (err e) = err e
-
 -- what gives no word gives 0, and no words of the block
 abbrev pub noWord : Call (Unit {0}) → Talk (Res ℕ × List ℕ)
-noWord t = andThen t (λ u. end (zeroOf u, []))
+noWord t = keep (zeroed t) []
 
 abbrev pub jobTalk : Port → Job → List ℕ → Talk (Res ℕ × List ℕ)
 jobTalk port (job.Read reg) b = keep (read reg) []
 jobTalk port (job.Wait micros) b = noWord (delay micros)
 jobTalk port (job.Command words) b = command port (take words b)
+jobTalk port (job.ReadReg phy device reg) b = keep (readReg port phy device reg) []
+jobTalk port (job.WriteReg phy device reg value) b = noWord (writeReg port phy device reg value)
+
+-- `readReg` and `writeReg`, with a word for both
+abbrev pub underTalk : Port → Wanted → Talk (Res ℕ × List ℕ)
+underTalk port w = keep (lockedTalk port (mask port) w) []
 
 abbrev pub resumeAccess : Port → Access → List ℕ → Reply → Talk (Res ℕ × List ℕ)
 resumeAccess port access.Reading b r = end (checked r, [])
 resumeAccess port access.Waiting b r = end (ok 0, [])
 resumeAccess port (access.Command words s) b r = resumeCommand port s (take words b) r
-resumeAccess port (access.Hold hw s) b r = noWord (resumeHold port hw s b r)
+resumeAccess port (access.Under mask s) b r = keep (resumeLocked port mask s b r) []
 
 abbrev pub toldAccess : Port → List ℕ → AccessStep → Talk (Res ℕ × List ℕ)
 toldAccess port b (accessstep.Ask a s) = ask a (λ r. resumeAccess port s b r)

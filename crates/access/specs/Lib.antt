@@ -1,2 +1,3 @@
 pub mod Access
 pub mod Hold
+pub mod Locked

@@ -1,23 +1,30 @@
 // What an operation asks for between two decisions of its own: an action, or what is done under a lock, suspended at an action.
 use crate::hold::Hold;
-use crate::hold::HoldStep;
+use crate::locked::Locked;
+use crate::locked::LockedStep;
 use hardware::Action;
+use hardware::Family;
 use hardware::Port;
 use hardware::Regs;
 use hardware::Reply;
-use hardware::Unit;
 use hardware::Word;
 use hostif::command::Command;
 use hostif::command::CommandStep;
+use mdio::mdio::Wanted;
+use words::mdio::address;
+use words::semaphore::Bits;
 ghost use Prim.Native.Nat.{ℕ};
-ghost use mathlib.Core.List.{List};
+ghost use mathlib.Core.List.{List, []};
 ghost use mathlib.Core.Path.{_≡_};
 ghost use lib.ListN.{take};
 ghost use Rattle.hardware.specs.Talk.{ask};
-ghost use Rattle.reference.specs.Acquire.{acquire, release, hwOf};
+ghost use Rattle.hardware.specs.Block.{keep};
+ghost use Rattle.reference.specs.Sync.{phy};
+ghost use Rattle.reference.specs.Acquire.{acquire, release};
+ghost use Rattle.reference.specs.Mdio.{mask};
 ghost use Rattle.hostif.specs.Command.{toldCommand};
-ghost use Rattle.access.specs.Hold.{toldHold};
-ghost use Rattle.access.specs.Access.{jobTalk, noWord, resumeAccess, toldAccess};
+ghost use Rattle.access.specs.Locked.{toldLocked};
+ghost use Rattle.access.specs.Access.{jobTalk, noWord, underTalk, resumeAccess, toldAccess};
 
 pub enum Job {
     // register
@@ -26,6 +33,10 @@ pub enum Job {
     Wait(u32),
     // hostif.rs's `command`: how many words, the first of the host block
     Command(usize),
+    // PHY, device, register
+    ReadReg(u32, u32, u16),
+    // with the value
+    WriteReg(u32, u32, u16, u16),
 }
 
 pub enum Access {
@@ -33,8 +44,8 @@ pub enum Access {
     Waiting,
     // how many words
     Command(usize, Command),
-    // acquire, release: the mask without TOKEN
-    Hold(u32, Hold),
+    // the mask
+    Under(u32, Locked),
 }
 
 // A job's first action, and where its access stands then.
@@ -49,10 +60,43 @@ pub enum AccessStep {
     Done(Word, usize),
 }
 
+// sync.rs's `phy`: the port's PHY bit.
+fn phy(lan: u32) -> u32
+    ensures { λ r. ⌜ phy lan ≡ r ⌝ }
+{
+    if lan == 1 { Bits::PHY1 } else { Bits::PHY0 }
+}
+
+// mdio.rs's `mask`: the PHY bit, and the token on the X553.
+fn mask(port: Port) -> u32
+    ensures { λ r. ⌜ mask port ≡ r ⌝ }
+{
+    let family = port.family;
+    match family {
+        Family::X552 => phy(port.lan),
+        Family::X553 => phy(port.lan) | Hold::TOKEN,
+    }
+}
+
+impl Begun {
+    fn under(port: Port, wanted: Wanted, block: &mut [u32; 16]) -> Begun
+        ensures { λ r. ⌜ underTalk port wanted ≡ ask (r .action) (λ x. resumeAccess port (r .access) (now (block .exit)) x) ⌝ }
+    {
+        let family = port.family;
+        let regs = Regs::of(family);
+        let mask = mask(port);
+        let state = Locked::first(port, mask, wanted, block);
+        Begun {
+            action: Action::Read(regs.swsm),
+            access: Access::Under(mask, state),
+        }
+    }
+}
+
 impl Job {
-    // Every job begins with an action, which needs no block yet.
-    pub fn start(self, port: Port) -> Begun
-        ensures { λ r. ⌜ ((b : List ℕ) → jobTalk port self b ≡ ask (r .action) (λ x. resumeAccess port (r .access) b x)) ⌝ }
+    // Every job begins with an action.
+    pub fn start(self, port: Port, block: &mut [u32; 16]) -> Begun
+        ensures { λ r. ⌜ jobTalk port self (now (block .entry)) ≡ ask (r .action) (λ x. resumeAccess port (r .access) (now (block .exit)) x) ⌝ }
     {
         match self {
             Job::Read(reg) => Begun {
@@ -71,23 +115,19 @@ impl Job {
                     access: Access::Command(words, Command::first(port)),
                 }
             }
+            Job::ReadReg(phy, device, reg) => {
+                let wanted = Wanted::Read(address(phy, device, reg));
+                Begun::under(port, wanted, block)
+            }
+            Job::WriteReg(phy, device, reg, value) => {
+                let wanted = Wanted::Write(address(phy, device, reg), value);
+                Begun::under(port, wanted, block)
+            }
         }
     }
 }
 
 impl Access {
-    fn held(port: Port, hw: u32, step: HoldStep) -> AccessStep
-        ensures { λ r. ⌜ ((b : List ℕ) → toldAccess port b r ≡ noWord (toldHold port hw b step)) ⌝ }
-    {
-        match step {
-            HoldStep::Ask(a, s) => AccessStep::Ask(a, Access::Hold(hw, s)),
-            HoldStep::Done(r) => match r {
-                Unit::Ok => AccessStep::Done(Word::Ok(0), 0),
-                Unit::Err(e) => AccessStep::Done(Word::Err(e), 0),
-            },
-        }
-    }
-
     fn commanded(port: Port, words: usize, step: CommandStep) -> AccessStep
         ensures { λ r. ⌜ ((b : List ℕ) → toldAccess port b r ≡ toldCommand port (take words b) step) ⌝ }
     {
@@ -97,11 +137,20 @@ impl Access {
         }
     }
 
+    fn under(port: Port, mask: u32, step: LockedStep) -> AccessStep
+        ensures { λ r. ⌜ ((b : List ℕ) → toldAccess port b r ≡ keep (toldLocked port mask b step) []) ⌝ }
+    {
+        match step {
+            LockedStep::Ask(a, s) => AccessStep::Ask(a, Access::Under(mask, s)),
+            LockedStep::Done(r) => AccessStep::Done(r, 0),
+        }
+    }
+
     pub fn acquire(port: Port, mask: u32, block: &mut [u32; 16]) -> AccessStep
         ensures { λ r. ⌜ toldAccess port (now (block .exit)) r ≡ noWord (acquire port mask) ⌝ }
     {
         let step = Hold::acquire(port, mask, block);
-        Access::held(port, mask & !Hold::TOKEN, step)
+        Access::under(port, mask, Locked::alone(port, mask, step))
     }
 
     // That of mask 0 is done at once.
@@ -109,7 +158,7 @@ impl Access {
         ensures { λ r. ⌜ toldAccess port (now (block .exit)) r ≡ noWord (release port mask) ⌝ }
     {
         let step = Hold::release(port, mask, block);
-        Access::held(port, mask & !Hold::TOKEN, step)
+        Access::under(port, mask, Locked::alone(port, mask, step))
     }
 
     pub fn next(self, port: Port, block: &mut [u32; 16], reply: Reply) -> AccessStep
@@ -122,9 +171,9 @@ impl Access {
                 let step = s.next_of(words, port, block, reply);
                 Access::commanded(port, words, step)
             }
-            Access::Hold(hw, s) => {
-                let step = s.next(port, hw, block, reply);
-                Access::held(port, hw, step)
+            Access::Under(mask, s) => {
+                let step = s.next(port, mask, block, reply);
+                Access::under(port, mask, step)
             }
         }
     }

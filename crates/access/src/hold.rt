@@ -2,6 +2,7 @@
 use hardware::Action;
 use hardware::Error;
 use hardware::Port;
+use hardware::Regs;
 use hardware::Reply;
 use hardware::Unit;
 use hostif::command::Command;
@@ -14,6 +15,9 @@ ghost use Prim.Native.Nat.{ℕ};
 ghost use mathlib.Core.Bool.{true, false};
 ghost use mathlib.Core.List.{List};
 ghost use mathlib.Core.Path.{_≡_};
+ghost use Rattle.hardware.specs.Talk.{ask};
+ghost use Rattle.hardware.specs.Regs.{regs};
+ghost use Rattle.hardware.specs.declared.Action.the-variants.{Read};
 ghost use Rattle.hardware.specs.Told.{unitOf};
 ghost use Rattle.reference.specs.Acquire.{
   hwOf,
@@ -28,18 +32,7 @@ ghost use Rattle.reference.specs.Acquire.{
 };
 ghost use Rattle.sync.specs.Sync.{toldSync};
 ghost use Rattle.hostif.specs.Token.{flagOf, toldToken};
-ghost use Rattle.access.specs.Hold.{
-  takes,
-  holdTaken,
-  holdFreed,
-  holdGiven,
-  holdAsked,
-  holdReturned,
-  holdBits,
-  holdToken,
-  resumeHold,
-  toldHold,
-};
+ghost use Rattle.access.specs.Hold.{holdTaken, holdFreed, holdGiven, holdAsked, holdReturned, holdBits, resumeHold, toldHold};
 
 // Where acquire_bits or release_bits runs.
 pub enum BitsPlace {
@@ -213,15 +206,29 @@ impl Hold {
         }
     }
 
-    pub fn acquire(port: Port, mask: u32, block: &mut [u32; 16]) -> HoldStep
-        ensures { λ r. ⌜ toldHold port (hwOf mask) (now (block .exit)) r ≡ acquire port mask ⌝ }
+    // acquire at its first action, which is always a read of SWSM
+    pub fn first(port: Port, mask: u32, block: &mut [u32; 16]) -> Hold
+        ensures { λ r. ⌜ acquire port mask ≡ ask (Read (regs (port .family) .swsm)) (λ x. resumeHold port (hwOf mask) r (now (block .exit)) x) ⌝ }
     {
         let hw = mask & !Hold::TOKEN;
         if mask & Hold::TOKEN == 0 {
-            Hold::plain(port, hw, Sync::take(port, hw))
+            Hold::Bits(BitsPlace::Plain, Sync::first(port, hw))
+        } else if hw == 0 {
+            let token = Token { take: true };
+            let state = token.first(port, block);
+            Hold::Token(TokenPlace::Taking(999), state)
         } else {
-            Hold::again(port, hw, block, 1000)
+            Hold::Bits(BitsPlace::Taking(999), Sync::first(port, hw))
         }
+    }
+
+    pub fn acquire(port: Port, mask: u32, block: &mut [u32; 16]) -> HoldStep
+        ensures { λ r. ⌜ toldHold port (hwOf mask) (now (block .exit)) r ≡ acquire port mask ⌝ }
+    {
+        let family = port.family;
+        let regs = Regs::of(family);
+        let state = Hold::first(port, mask, block);
+        HoldStep::Ask(Action::Read(regs.swsm), state)
     }
 
     pub fn release(port: Port, mask: u32, block: &mut [u32; 16]) -> HoldStep

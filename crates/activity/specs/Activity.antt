@@ -1,11 +1,11 @@
 -- What a suspended `phy_activity` still says, from what its job gives
-use Prim.Native.Nat.{ℕ, _%_}
+use Prim.Native.Nat.{ℕ}
 use mathlib.Core.List.{List}
-use lib.Dec.{eqb}
-use Rattle.hardware.specs.Talk.{Call, Res, ok, err, end, andThen, pick, _>>=_, _>>_, delay, return}
+use Rattle.hardware.specs.Talk.{Call, Res, ok, err, end, andThen, _>>=_, _>>_}
 use Rattle.hardware.specs.declared.Port.{Port}
 use Rattle.answers.specs.declared.Words.{Words}
-use Rattle.reference.specs.Hostif.{activityBlock, activityTimes, activityWords, phyActivity}
+use Rattle.reference.specs.Hostif.{activityBlock, activityTimes, activityAnswer, phyActivity}
+use Rattle.hostif.specs.Command.{statusOf}
 use Rattle.access.specs.Access.{jobTalk}
 use Rattle.activity.specs.declared.Activity.{Activity}
 use Rattle.activity.specs.declared.Activity.the-variants as activity
@@ -27,14 +27,12 @@ abbrev pub foundOf : Found → Res Words
 foundOf (found.Ok v) = ok v
 foundOf (found.Err e) = err e
 
--- the command has ended; its status is a byte (hostif's proofs/Bytes.antt), of any other word the lowest byte is
-abbrev pub activityByte : Port → Asked → ℕ → Res ℕ → List ℕ → Call Words
-activityByte port asked n got ws =
-    end got
-    >>= λ status. pick (eqb (status % 256) 1) (return (activityWords ws)) (delay 20 >> activityTimes port (blockOf port asked) n (status % 256))
+-- once its command has ended, with n tries left
+abbrev pub activityGot : Port → Asked → ℕ → Res ℕ → List ℕ → Call Words
+activityGot port asked n got ws = activityAnswer (activityTimes port (blockOf port asked) n) (statusOf got, ws)
 
 abbrev pub resumeActivity : Port → Asked → Activity → Res ℕ → List ℕ → Call Words
-resumeActivity port asked (activity.Exchanging n) got ws = activityByte port asked n got ws
+resumeActivity port asked (activity.Exchanging n) got ws = activityGot port asked n got ws
 resumeActivity port asked (activity.Pausing n status) got ws = end got >>= λ _. activityTimes port (blockOf port asked) n status
 
 abbrev pub toldActivity : Port → Asked → List ℕ → ActivityStep → Call Words

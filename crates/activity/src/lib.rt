@@ -10,7 +10,7 @@ ghost use mathlib.Core.Path.{_≡_};
 ghost use lib.ListN.{getD, length, take};
 ghost use Rattle.hardware.specs.Told.{wordOf};
 ghost use Rattle.reference.specs.Hostif.{activityTimes, activityWords};
-ghost use Rattle.activity.specs.Activity.{blockOf, activityOf, activityByte, resumeActivity, toldActivity};
+ghost use Rattle.activity.specs.Activity.{blockOf, activityOf, activityGot, resumeActivity, toldActivity};
 
 // phy_activity's arguments.
 pub struct Asked {
@@ -104,7 +104,7 @@ impl Activity {
         got: Word,
         words: usize,
     ) -> ActivityStep
-        ensures { λ r. ⌜ toldActivity port asked (now (block .entry)) r ≡ activityByte port asked left (wordOf got) (take words (now (block .entry))) ⌝ }
+        ensures { λ r. ⌜ toldActivity port asked (now (block .entry)) r ≡ activityGot port asked left (wordOf got) (take words (now (block .entry))) ⌝ }
     {
         match got {
             Word::Err(e) => ActivityStep::Done(Found::Err(e)),

@@ -24,6 +24,15 @@ fits-begun (operationv.Release mask) ws h = operation-fits _ (omega arith)
 fits-begun operationv.Command ws h = operation-fits _ h
 fits-begun (operationv.Token take) ws h = operation-fits _ (omega arith)
 fits-begun (operationv.PhyActivity asked) ws h = operation-fits _ (omega arith)
+fits-begun (operationv.ReadReg phy device register) ws h = operation-fits _ (omega arith)
+fits-begun (operationv.WriteReg phy device register value) ws h = operation-fits _ (omega arith)
+fits-begun (operationv.Modify at) ws h = operation-fits _ (omega arith)
+fits-begun (operationv.Probe phy) ws h = operation-fits _ (omega arith)
+fits-begun operationv.Scan ws h = operation-fits _ (omega arith)
+fits-begun (operationv.Reset phy x557) ws h = operation-fits _ (omega arith)
+fits-begun (operationv.Abilities phy) ws h = operation-fits _ (omega arith)
+fits-begun (operationv.Advertise asked) ws h = operation-fits _ (omega arith)
+fits-begun (operationv.AnLink phy) ws h = operation-fits _ (omega arith)
 
 -- a bound of a talk that does not come near 2 ^ 64
 pub record Short (t : Talk Out) : Type 0 where

@@ -1,15 +1,14 @@
 -- What holds of every conversation
-use Prim.Native.Nat.{ℕ, zero, suc, _+_, _-_, _*_, _%_, _^_, _<_, _≤_}
+use Prim.Native.Nat.{ℕ, suc, _+_, _-_, _*_, _%_, _^_, _≤_}
 use mathlib.Core.Path.{_≡_, refl, ap, ap₂, sym, _∙_}
 use mathlib.Core.Bool.{Bool, true, false, true≢false}
 use mathlib.Core.List.{List, [], _∷_, _++_}
 use native.Mathlib.Omega.{arith}
 use native.Mathlib.Nat.{add-assoc, add-zero, zero-add}
-use borrow.Author.Tests.{lt-ltb, le-ltb}
+use borrow.Author.Tests.{le-ltb}
 use lib.Dec.{ltb}
 use lib.ListN.{length, take, drop, length-append}
 use lib.Seq.{drop-drop, drop-append-le, sets, sets-eq, take-at, drop-at, slice, slice-empty, length-take-le}
-use Rattle.hardware.specs.Bound.{waited}
 use Rattle.hardware.specs.Talk.{Talk, ask, end, pick}
 use Rattle.hardware.specs.declared.Action.{Action}
 use Rattle.hardware.specs.declared.Action.the-variants.{Read, Write, Wait}

@@ -13,6 +13,7 @@ use Rattle.hardware.specs.declared.Port.{Port}
 use Rattle.hardware.specs.declared.Error.the-variants.{Block}
 use Rattle.reference.specs.Operations as ops
 use Rattle.access.specs.Access.{resumeAccess}
+use Rattle.phy.specs.Advertise.{maybeOf}
 use Rattle.operations.specs.After.{answerOf, resumeAfter}
 use Rattle.conversation.specs.Act.{uses, replyOf}
 use Rattle.conversation.specs.declared.operation.Operation.{Operation}
@@ -31,10 +32,40 @@ Out = ops.Out
 
 -- the PHY address and the MDIO device address among its arguments, 0 where it has none
 unfoldable pub phyOf : Operation → ℕ
-phyOf what = 0
+phyOf operationv.Veto = 0
+phyOf operationv.Link = 0
+phyOf (operationv.Acquire mask) = 0
+phyOf (operationv.Release mask) = 0
+phyOf operationv.Command = 0
+phyOf (operationv.Token take) = 0
+phyOf (operationv.PhyActivity asked) = 0
+phyOf (operationv.ReadReg phy device register) = phy
+phyOf (operationv.WriteReg phy device register value) = phy
+phyOf (operationv.Modify at) = at .phy
+phyOf (operationv.Probe phy) = phy
+phyOf operationv.Scan = 0
+phyOf (operationv.Reset phy x557) = phy
+phyOf (operationv.Abilities phy) = phy
+phyOf (operationv.Advertise asked) = asked .phy
+phyOf (operationv.AnLink phy) = phy
 
 unfoldable pub deviceOf : Operation → ℕ
-deviceOf what = 0
+deviceOf operationv.Veto = 0
+deviceOf operationv.Link = 0
+deviceOf (operationv.Acquire mask) = 0
+deviceOf (operationv.Release mask) = 0
+deviceOf operationv.Command = 0
+deviceOf (operationv.Token take) = 0
+deviceOf (operationv.PhyActivity asked) = 0
+deviceOf (operationv.ReadReg phy device register) = device
+deviceOf (operationv.WriteReg phy device register value) = device
+deviceOf (operationv.Modify at) = at .device
+deviceOf (operationv.Probe phy) = 0
+deviceOf operationv.Scan = 0
+deviceOf (operationv.Reset phy x557) = 0
+deviceOf (operationv.Abilities phy) = 0
+deviceOf (operationv.Advertise asked) = 0
+deviceOf (operationv.AnLink phy) = 0
 
 -- the operation of the reference that it is, with the words of its host block
 abbrev pub opOf : Operation → List ℕ → ops.Op
@@ -46,6 +77,15 @@ opOf operationv.Command ws = ops.Command ws
 opOf (operationv.Token take) ws = ops.Token take
 opOf (operationv.PhyActivity asked) ws =
     ops.PhyActivity (asked .activity) (asked .data .w0) (asked .data .w1) (asked .data .w2) (asked .data .w3)
+opOf (operationv.ReadReg phy device register) ws = ops.ReadReg phy device register
+opOf (operationv.WriteReg phy device register value) ws = ops.WriteReg phy device register value
+opOf (operationv.Modify at) ws = ops.Modify (at .phy) (at .device) (at .register) (at .keep) (at .set)
+opOf (operationv.Probe phy) ws = ops.Probe phy
+opOf operationv.Scan ws = ops.Scan
+opOf (operationv.Reset phy x557) ws = ops.Reset phy x557
+opOf (operationv.Abilities phy) ws = ops.Abilities phy
+opOf (operationv.Advertise asked) ws = ops.Advertise (asked .phy) (asked .speeds) (maybeOf (asked .nbase)) (asked .veto)
+opOf (operationv.AnLink phy) ws = ops.AnLink phy
 
 -- what a running operation says, from the reply that it waits for, with the host block as it is now
 abbrev pub resumeOp : Port → Op → Reply → List ℕ → Talk Out

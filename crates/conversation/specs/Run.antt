@@ -1,5 +1,5 @@
 -- A run over a script of replies, into a transcript
-use Prim.Native.Nat.{ℕ, _+_, _-_, _*_, _%_, _^_}
+use Prim.Native.Nat.{ℕ, _+_, _-_, _%_, _^_}
 use mathlib.Core.Bool.{Bool, true, false}
 use mathlib.Core.List.{List, [], _∷_, _++_}
 use lib.Dec.{ltb}
@@ -10,7 +10,7 @@ use Rattle.hardware.specs.Talk.{Talk, ask, end, pick}
 use Rattle.hardware.specs.declared.Action.{Action}
 use Rattle.hardware.specs.declared.Reply.{Reply}
 use Rattle.hardware.specs.declared.Port.{Port}
-use Rattle.conversation.specs.Act.{uses, words, replyFor, usedBy}
+use Rattle.conversation.specs.Act.{uses, words, replyFor}
 use Rattle.conversation.specs.Conversation.{Conv, Out, convOf}
 use Rattle.conversation.specs.declared.conversation.Stop.{Stop}
 use Rattle.conversation.specs.declared.conversation.Stop.the-variants.{Done, AfterEnd, BadReply, NoReply, NoRoom}

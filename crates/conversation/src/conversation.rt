@@ -5,6 +5,7 @@ use crate::action::waited_of;
 use crate::operation::Op;
 use crate::operation::Operation;
 use crate::operation::Place;
+use crate::start::start;
 use answers::Answer;
 use hardware::Action;
 use hardware::Error;
@@ -17,20 +18,7 @@ ghost use mathlib.Core.List.{[]};
 ghost use lib.ListN.{length, take};
 ghost use Rattle.hardware.specs.Told.{unitOf};
 ghost use Rattle.hardware.specs.Talk.{end, err};
-ghost use Rattle.conversation.specs.Conversation.{
-  told,
-  resumeOp,
-  convOf,
-  gone,
-  opening,
-  padded,
-  begun,
-  number,
-  steppedOf,
-  stepTalk,
-  given,
-  handedBack,
-};
+ghost use Rattle.conversation.specs.Conversation.{resumeOp, convOf, gone, opening, padded, begun, number, steppedOf, stepTalk, given, handedBack};
 
 // The whole state of a conversation.
 pub struct Conversation {
@@ -132,7 +120,7 @@ impl Conversation {
             Unit::Err(e) => Conversation::refused(port, e),
             Unit::Ok => {
                 let mut words = copied(block);
-                let place = what.start(port, &mut words, block.len());
+                let place = start(what, port, &mut words, block.len());
                 Conversation {
                     port,
                     place,

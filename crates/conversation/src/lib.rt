@@ -3,3 +3,4 @@ pub mod action;
 pub mod conversation;
 pub mod operation;
 pub mod run;
+pub mod start;

@@ -2,24 +2,20 @@
 use access::access::Access;
 use access::access::AccessStep;
 use access::access::Job;
-use activity::Activity;
 use activity::Asked;
 use answers::Answer;
 use hardware::Action;
 use hardware::Port;
 use hardware::Reply;
-use hostif::token::Token;
 use operations::After;
 use operations::AfterStep;
-ghost use Prim.Native.Nat.{ℕ};
-ghost use mathlib.Core.List.{List};
+use phy::advertise::Advertised;
+use phy::modify::Register;
 ghost use mathlib.Core.Path.{_≡_};
-ghost use lib.ListN.{length, take};
 ghost use Rattle.hardware.specs.Talk.{andThen};
-ghost use Rattle.reference.specs.Operations.{operation};
 ghost use Rattle.access.specs.Access.{toldAccess, jobTalk};
 ghost use Rattle.operations.specs.After.{resumeAfter, toldAfter};
-ghost use Rattle.conversation.specs.Conversation.{phyOf, deviceOf, opOf, resumeOp, told};
+ghost use Rattle.conversation.specs.Conversation.{phyOf, deviceOf, resumeOp, told};
 
 // What the host asks for.
 pub enum Operation {
@@ -34,6 +30,21 @@ pub enum Operation {
     // take
     Token(bool),
     PhyActivity(Asked),
+    // phy, device, register
+    ReadReg(u32, u32, u16),
+    // phy, device, register, value
+    WriteReg(u32, u32, u16, u16),
+    Modify(Register),
+    // phy
+    Probe(u32),
+    Scan,
+    // phy, whether it is an X557
+    Reset(u32, bool),
+    // phy
+    Abilities(u32),
+    Advertise(Advertised),
+    // phy
+    AnLink(u32),
 }
 
 // A running operation, at the action that its access asks for.
@@ -49,89 +60,84 @@ pub enum Place {
     Asks(Action, Op),
 }
 
-// How many words the first so many of a block of 16 are.
-fn count(block: &[u32], words: usize) -> u32
-    requires { ⌜ length (now block) ≡ 16 ⌝ }
-    ensures { λ r. ⌜ length (take words (now (block .entry))) ≡ r ⌝ }
-{
-    if words < 16 { words as u32 } else { 16 }
-}
-
 impl Operation {
     // The PHY address among its arguments, 0 where it has none.
     pub fn phy(self) -> u32
         ensures { λ r. ⌜ phyOf self ≡ r ⌝ }
     {
-        0
+        match self {
+            Operation::Veto => 0,
+            Operation::Link => 0,
+            Operation::Acquire(_) => 0,
+            Operation::Release(_) => 0,
+            Operation::Command => 0,
+            Operation::Token(_) => 0,
+            Operation::PhyActivity(_) => 0,
+            Operation::ReadReg(phy, _, _) => phy,
+            Operation::WriteReg(phy, _, _, _) => phy,
+            Operation::Modify(at) => at.phy,
+            Operation::Probe(phy) => phy,
+            Operation::Scan => 0,
+            Operation::Reset(phy, _) => phy,
+            Operation::Abilities(phy) => phy,
+            Operation::Advertise(asked) => asked.phy,
+            Operation::AnLink(phy) => phy,
+        }
     }
 
     // The MDIO device address among its arguments, 0 where it has none.
     pub fn device(self) -> u32
         ensures { λ r. ⌜ deviceOf self ≡ r ⌝ }
     {
-        0
-    }
-
-    // `words`: how many of the block are the host's.
-    pub fn start(self, port: Port, block: &mut [u32; 16], words: usize) -> Place
-        ensures { λ r. ⌜ told port r (now (block .exit)) ≡ operation port (opOf self (take words (now (block .entry)))) ⌝ }
-    {
         match self {
-            Operation::Veto => Op::begun(port, Job::Read(Port::MMNGC), After::Veto),
-            Operation::Link => Op::begun(port, Job::Read(Port::LINKS), After::Link),
-            Operation::Acquire(mask) => {
-                let step = Access::acquire(port, mask, block);
-                Op::stepped(port, After::Nothing, block, step)
-            }
-            Operation::Release(mask) => {
-                let step = Access::release(port, mask, block);
-                Op::stepped(port, After::Nothing, block, step)
-            }
-            Operation::Command => {
-                let n = count(block, words);
-                Op::begun(port, Job::Command(words), After::Command(n))
-            }
-            Operation::Token(take) => {
-                let token = Token { take };
-                token.put(port, block);
-                Op::begun(port, Job::Command(2), After::Token(take))
-            }
-            Operation::PhyActivity(asked) => {
-                let step = Activity::start(asked, port, block);
-                Op::decided(port, After::activity(port, asked, step))
-            }
+            Operation::Veto => 0,
+            Operation::Link => 0,
+            Operation::Acquire(_) => 0,
+            Operation::Release(_) => 0,
+            Operation::Command => 0,
+            Operation::Token(_) => 0,
+            Operation::PhyActivity(_) => 0,
+            Operation::ReadReg(_, device, _) => device,
+            Operation::WriteReg(_, device, _, _) => device,
+            Operation::Modify(at) => at.device,
+            Operation::Probe(_) => 0,
+            Operation::Scan => 0,
+            Operation::Reset(_, _) => 0,
+            Operation::Abilities(_) => 0,
+            Operation::Advertise(_) => 0,
+            Operation::AnLink(_) => 0,
         }
     }
 }
 
 impl Op {
     // The next access begins.
-    fn begun(port: Port, job: Job, after: After) -> Place
-        ensures { λ r. ⌜ ((b : List ℕ) → told port r b ≡ andThen (jobTalk port job b) (λ p. resumeAfter port after (p .0) (p .1))) ⌝ }
+    pub fn begun(port: Port, block: &mut [u32; 16], job: Job, after: After) -> Place
+        ensures { λ r. ⌜ told port r (now (block .exit)) ≡ andThen (jobTalk port job (now (block .entry))) (λ p. resumeAfter port after (p .0) (p .1)) ⌝ }
     {
-        let begun = job.start(port);
+        let begun = job.start(port, block);
         let access = begun.access;
         let action = begun.action;
         Place::Asks(action, Op { access, after })
     }
 
-    fn decided(port: Port, step: AfterStep) -> Place
-        ensures { λ r. ⌜ ((b : List ℕ) → told port r b ≡ toldAfter port b step) ⌝ }
+    pub fn decided(port: Port, block: &mut [u32; 16], step: AfterStep) -> Place
+        ensures { λ r. ⌜ told port r (now (block .exit)) ≡ toldAfter port (now (block .entry)) step ⌝ }
     {
         match step {
-            AfterStep::Ask(job, after) => Op::begun(port, job, after),
+            AfterStep::Ask(job, after) => Op::begun(port, block, job, after),
             AfterStep::Done(answer, words) => Place::Ended(answer, words),
         }
     }
 
-    fn stepped(port: Port, after: After, block: &mut [u32; 16], step: AccessStep) -> Place
+    pub fn stepped(port: Port, after: After, block: &mut [u32; 16], step: AccessStep) -> Place
         ensures { λ r. ⌜ told port r (now (block .exit)) ≡ andThen (toldAccess port (now (block .entry)) step) (λ p. resumeAfter port after (p .0) (p .1)) ⌝ }
     {
         match step {
             AccessStep::Ask(a, access) => Place::Asks(a, Op { access, after }),
             AccessStep::Done(got, words) => {
                 let next = after.next(port, block, got, words);
-                Op::decided(port, next)
+                Op::decided(port, block, next)
             }
         }
     }

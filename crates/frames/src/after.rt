@@ -4,20 +4,20 @@ use crate::kr::KrAutoneg;
 use crate::kr::KrModify;
 use crate::kr::RestartAn;
 use crate::locked::Access;
-use crate::phy::Advertise;
-use crate::phy::Advertised;
-use crate::phy::AnLink;
-use crate::phy::Modify;
-use crate::phy::Probe;
-use crate::phy::Register;
-use crate::phy::Reset;
-use crate::phy::Scan;
 use crate::watch::Poll;
 use crate::watch::Watch;
 use crate::x552::Clock;
 use crate::x553::Bringup;
 use activity::Activity;
 use activity::Asked;
+use phy::advertise::Advertise;
+use phy::advertise::Advertised;
+use phy::an_link::AnLink;
+use phy::modify::Modify;
+use phy::modify::Register;
+use phy::probe::Probe;
+use phy::reset::Reset;
+use phy::scan::Scan;
 
 // What is left of an operation when its access has ended, with the arguments that are still needed.
 pub enum After {

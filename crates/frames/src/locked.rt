@@ -1,24 +1,21 @@
 // Tier 1: one access, a plain action or a body under its lock, with the bodies that have no functions yet.
 use crate::iosf::KrRead;
 use crate::iosf::KrWrite;
-use crate::mdio::MdioRead;
-use crate::mdio::MdioWrite;
 use crate::nvm::Nvm;
 use access::hold::Hold;
 use hardware::Word;
 use hostif::command::Command;
+use mdio::mdio::Mdio;
+use mdio::mdio::Wanted;
 
-// What is held for: nothing but acquire or release, or the arguments of the Rust function.
+// What is held for: the arguments of the Rust function.
 pub enum Held {
-    Alone,
     // kr_read: address
     KrRead(u32),
     // kr_write: address, value
     KrWrite(u32, u32),
-    // read_reg: mdio.rs's address
-    MdioRead(u32),
-    // write_reg: mdio.rs's address, value
-    MdioWrite(u32, u32),
+    // read_reg, write_reg
+    Mdio(Wanted),
     // nvm_word: word
     Nvm(u32),
 }
@@ -27,21 +24,21 @@ pub enum Held {
 pub enum Body {
     KrRead(KrRead),
     KrWrite(KrWrite),
-    MdioRead(MdioRead),
-    MdioWrite(MdioWrite),
+    Mdio(Mdio),
     Nvm(Nvm),
 }
 
-// Where acquire or release runs.
+// Why acquire or release runs.
 pub enum HoldPlace {
-    Acquiring,
+    Alone,
+    Acquiring(Held),
     // what the closure gave
     Releasing(Word),
 }
 
 pub enum Locked {
     Hold(HoldPlace, Hold),
-    Body(Body),
+    Body(Held, Body),
 }
 
 pub enum Access {
@@ -51,5 +48,5 @@ pub enum Access {
     // how many words
     Command(usize, Command),
     // the mask
-    Under(Held, u32, Locked),
+    Under(u32, Locked),
 }

@@ -1,11 +1,11 @@
 // Tier 2, x552.rs: the Watch and its poll.
 use crate::kr::Ixfi;
 use crate::kr::KrAutoneg;
-use crate::phy::AnLink;
 use answers::Copper;
 use answers::Internal;
 use answers::MaybeStatus;
 use hardware::Error;
+use phy::an_link::AnLink;
 
 // x552.rs's Watch.
 pub struct Watch {

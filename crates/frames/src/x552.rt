@@ -1,15 +1,15 @@
 // Tier 2, x552.rs: the X557, before and after the MAC reset. The port and the veto are parameters.
 use crate::kr::Ixfi;
-use crate::phy::Advertise;
-use crate::phy::AnLink;
-use crate::phy::Modify;
-use crate::phy::Probe;
-use crate::phy::Reset;
-use crate::phy::Scan;
 use answers::CopperSetup;
 use answers::Speeds;
 use answers::X557;
 use hardware::Error;
+use phy::advertise::Advertise;
+use phy::an_link::AnLink;
+use phy::modify::Modify;
+use phy::probe::Probe;
+use phy::reset::Reset;
+use phy::scan::Scan;
 
 // slow_mdio, and set_mdio_speed of x553.rs.
 pub enum Clock {

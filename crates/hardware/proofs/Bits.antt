@@ -1,8 +1,8 @@
 -- The bits of `and`, `or` and `v & !b`, each once over the width
-use Prim.Native.Nat.{ℕ, zero, suc, _+_, _-_, _*_, _/_, _%_, _^_, _≤_, _<_, min, max}
+use Prim.Native.Nat.{ℕ, zero, suc, _+_, _-_, _*_, _/_, _%_, _^_, _<_, min, max}
 use native.Mathlib.Omega.{arith}
-use native.Mathlib.Nat.{mod-lt, zero-lt-suc, pow-suc, min-zero, zero-min, max-zero, zero-max}
-use mathlib.Core.Path.{_≡_, refl, sym, ap, ap₂, _∙_, subst}
+use native.Mathlib.Nat.{mod-lt, zero-lt-suc, pow-suc, min-zero}
+use mathlib.Core.Path.{_≡_, refl, sym, ap, ap₂, _∙_}
 use mathlib.Core.Bool.{Bool, true, false, not, _&&_, _||_, true≢false}
 use lib.Dec.{eqb}
 use lib.Bits.{bitAnd, bitOr, and-step, or-step, and-zero-r}

@@ -1,11 +1,10 @@
 -- Bounds on talks: one law for each form of a talk
 use Prim.Native.Nat.{ℕ, zero, suc, _+_, _*_, _≤_}
 use mathlib.Core.Bool.{Bool, true, false}
-use mathlib.Core.List.{List}
 use native.Mathlib.Omega.{arith}
 use native.Mathlib.Nat.{suc-mul}
-use Rattle.hardware.specs.Bound.{waited, Within, at-end, at-ask}
-use Rattle.hardware.specs.Talk.{Talk, Res, ok, err, ask, end, pick, andThen, orStop, checked, read, times}
+use Rattle.hardware.specs.Bound.{Within, at-end, at-ask}
+use Rattle.hardware.specs.Talk.{Talk, Res, ok, err, pick, andThen, orStop, checked, read, times}
 use Rattle.hardware.specs.declared.Action.the-variants as action
 
 pub within-more : {A : Type 0} {t : Talk A} {n m n' m' : ℕ} → n ≤ n' → m ≤ m' → Within t n m → Within t n' m'

@@ -1,5 +1,5 @@
 -- The laws of conversations: going on from an end, regrouping, and a bounded loop by the code's count of the turns left
-use Prim.Native.Nat.{ℕ, zero, suc, _+_, _-_, _≤_, _<_}
+use Prim.Native.Nat.{ℕ, suc, _+_, _-_, _≤_, _<_}
 use mathlib.Core.Path.{_≡_, refl, ap, fun-ext}
 use native.Mathlib.Omega.{arith}
 use Rattle.hardware.specs.Talk.{Talk, end, ask, andThen, times}

@@ -1,7 +1,7 @@
 -- Conversations of a Rust function that is lent a host block: what it gives back, and the block as it is left
 use Prim.Native.Nat.{ℕ}
 use mathlib.Core.List.{List}
-use Rattle.hardware.specs.Talk.{Talk, Call, end, ask, Res, ok, err, andThen}
+use Rattle.hardware.specs.Talk.{Talk, end, Res, ok, err, andThen}
 use Rattle.hardware.specs.declared.Error.{Error}
 
 abbrev pub Blk : Type 0 → Type 0

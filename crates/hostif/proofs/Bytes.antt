@@ -1,5 +1,5 @@
 -- A command gives a status of one byte, so what goes on from it may go on from the status's lowest byte
-use Prim.Native.Nat.{ℕ, zero, suc, _+_, _*_, _/_, _%_, _^_, _<_}
+use Prim.Native.Nat.{ℕ, zero, suc, _+_, _/_, _%_, _^_, _<_}
 use mathlib.Core.Bool.{Bool, true, false}
 use mathlib.Core.List.{List}
 use mathlib.Core.Path.{_≡_, refl, ap, fun-ext}
@@ -14,10 +14,11 @@ use Rattle.hardware.specs.declared.Port.{Port}
 use Rattle.hardware.specs.declared.Reply.{Reply}
 use Rattle.words.specs.Hostif.{flexMng, fits, replyWords}
 use Rattle.reference.specs.Sync.{withBlock, heldGiven, heldDone, heldTaken, acquireBits, releaseBits}
+use Rattle.hostif.specs.Command.{statusOf}
 use Rattle.reference.specs.Hostif.{post, rest, replyLength, replyStatus, received, exchange, command}
 
 -- each good end is a byte
-pub data Bytes : Talk (Res ℕ × List ℕ) → Type 0 where
+data Bytes : Talk (Res ℕ × List ℕ) → Type 0 where
   status : {v : ℕ} {b : List ℕ} → v < 256 → Bytes (end (ok v, b))
   stopped : {e : Error} {b : List ℕ} → Bytes (end (err e, b))
   asks : {a : Action} {k : Reply → Talk (Res ℕ × List ℕ)} → ((r : Reply) → Bytes (k r)) → Bytes (ask a k)
@@ -77,14 +78,20 @@ taken-bytes : (b : List ℕ) (give : Call (Unit {0})) (r : Res (Unit {0})) → B
 taken-bytes b give (ok _) = given-bytes b give (exchange-bytes b)
 taken-bytes b give (err e) = stopped
 
-pub command-bytes : (port : Port) (b : List ℕ) → Bytes (command port b)
+command-bytes : (port : Port) (b : List ℕ) → Bytes (command port b)
 unfolding command
 command-bytes port b =
     then-bytes (acquireBits port 0x400) (heldTaken (withBlock b) (releaseBits port 0x400) (exchange b)) (taken-bytes b (releaseBits port 0x400))
 
--- what agrees on bytes and errors is the same after it
-pub cut : {B : Type 0} (f g : Res ℕ × List ℕ → Talk B) → ((v : ℕ) (b : List ℕ) → v < 256 → f (ok v, b) ≡ g (ok v, b))
-    → ((e : Error) (b : List ℕ) → f (err e, b) ≡ g (err e, b)) → {t : Talk (Res ℕ × List ℕ)} → Bytes t → andThen t f ≡ andThen t g
-cut f g good bad (status {v} {b} h) = good v b h
-cut f g good bad (stopped {e} {b}) = bad e b
-cut f g good bad (asks {a} h) = ap (ask a) (fun-ext (λ r. cut f g good bad (h r)))
+small : (v : ℕ) → v < 256 → v % 256 ≡ v
+small v h = omega arith
+
+cut : {B : Type 0} (f : Res ℕ × List ℕ → Talk B) {t : Talk (Res ℕ × List ℕ)} → Bytes t → andThen t (λ p. f (statusOf (p .0), p .1)) ≡ andThen t f
+cut f (status {v} {b} h) = ap (λ (s : ℕ). f (ok s, b)) (small v h)
+cut f stopped = refl
+cut f (asks {a} h) = ap (ask a) (fun-ext (λ r. cut f (h r)))
+
+-- so what goes on from a command may go on from its status's lowest byte
+pub status-cut : (port : Port) (b : List ℕ) {B : Type 0} (f : Res ℕ × List ℕ → Talk B)
+    → andThen (command port b) (λ p. f (statusOf (p .0), p .1)) ≡ andThen (command port b) f
+status-cut port b f = cut f (command-bytes port b)

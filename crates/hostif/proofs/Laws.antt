@@ -1,26 +1,28 @@
--- The token's two words, and its status
-use Prim.Native.Nat.{ℕ, _≤_, _<_, _%_}
+-- What is stored at the front of a block, and what a token says
+use Prim.Native.Nat.{ℕ, _+_, _≤_}
 use mathlib.Core.Bool.{Bool}
-use mathlib.Core.List.{List, [], _∷_}
-use mathlib.Core.Path.{_≡_, refl, ap}
+use mathlib.Core.List.{List}
+use mathlib.Core.Path.{_≡_, refl, ap, sym, _∙_}
 use native.Mathlib.Omega.{arith}
-use lib.ListN.{length, take, set}
-use Rattle.hardware.specs.Talk.{andThen}
+use lib.ListN.{length, take, drop}
+use lib.Seq.{sets, sets-eq, take-at}
+use Rattle.hardware.specs.Talk.{Talk, Res, andThen}
 use Rattle.hardware.specs.declared.Port.{Port}
-use Rattle.reference.specs.Hostif.{command, tokenStatus, tokenAnswer}
+use Rattle.reference.specs.Hostif.{command, token, tokenBlock, tokenAnswer}
 use Rattle.hostif.specs.Token.{tokenGot}
-use Rattle.hostif.proofs.Bytes.{command-bytes, cut}
+use Rattle.hostif.proofs.Bytes.{status-cut}
 
--- a block whose first two words were written
-pub two : (xs : List ℕ) (a b : ℕ) → 2 ≤ length xs → take 2 (set (set xs 0 a) 1 b) ≡ a ∷ b ∷ []
-two [] a b h = let z : _≡_ {A = ℕ} 0 1 = omega arith in absurd (omega (arith, z))
-two (x ∷ []) a b h = let z : _≡_ {A = ℕ} 0 1 = omega arith in absurd (omega (arith, z))
-two (x ∷ (y ∷ xs)) a b h = refl
+-- words that were stored one behind the other, from the front of a block on
+pub stored : (vs xs : List ℕ) → length vs ≤ length xs → take (length vs) (sets xs 0 vs) ≡ vs
+stored vs xs h =
+    let inside : 0 + length vs ≤ length xs = omega arith in
+    rw (sets-eq vs xs 0 inside) (take-at vs (drop (0 + length vs) xs) (length vs) refl)
 
-small : (v : ℕ) → v < 256 → v % 256 ≡ v
-small v h = omega arith
-
-pub token-cut : (port : Port) (b : List ℕ) (take : Bool)
-    → andThen (command port b) (λ p. tokenGot take (p .0)) ≡ andThen (command port b) (tokenAnswer take)
-token-cut port b take =
-    cut (λ p. tokenGot take (p .0)) (tokenAnswer take) (λ v b h. ap (tokenStatus take) (small v h)) (λ e b. refl) (command-bytes port b)
+-- what a token says, of what its command says
+pub token-begun : (port : Port) (take : Bool) {ws : List ℕ} {t : Talk (Res ℕ × List ℕ)} → ws ≡ tokenBlock port take → command port ws ≡ t
+    → token port take ≡ andThen t (λ p. tokenGot take (p .0))
+unfolding token
+token-begun port take w e =
+    sym (status-cut port (tokenBlock port take) (tokenAnswer take))
+    ∙ ap (λ (l : List ℕ). andThen (command port l) (λ p. tokenGot take (p .0))) (sym w)
+    ∙ ap (λ (u : Talk (Res ℕ × List ℕ)). andThen u (λ p. tokenGot take (p .0))) e

@@ -1,7 +1,7 @@
 -- What a suspended machine of command.rt still says, and how it leaves the block
-use Prim.Native.Nat.{ℕ}
+use Prim.Native.Nat.{ℕ, _%_}
 use mathlib.Core.List.{List}
-use Rattle.hardware.specs.Talk.{Talk, Call, Res, ask, end, andThen}
+use Rattle.hardware.specs.Talk.{Talk, Call, Res, ok, err, ask, end, andThen}
 use Rattle.hardware.specs.Block.{Blk}
 use Rattle.hardware.specs.Told.{wordOf}
 use Rattle.hardware.specs.declared.Port.{Port}
@@ -16,6 +16,11 @@ use Rattle.hostif.specs.declared.command.Command.{Command}
 use Rattle.hostif.specs.declared.command.Command.the-variants as command
 use Rattle.hostif.specs.declared.command.CommandStep.{CommandStep}
 use Rattle.hostif.specs.declared.command.CommandStep.the-variants as commandstep
+
+-- what a command gave, with its status as a byte: it is one (proofs/Bytes.antt), and of any other word the lowest byte is
+abbrev pub statusOf : Res ℕ → Res ℕ
+statusOf (ok status) = ok (status % 256)
+statusOf (err e) = err e
 
 abbrev pub commandReleased : Res ℕ → Call (Unit {0}) → Blk ℕ
 commandReleased result t b = andThen t (heldGiven (withBlock b) (result, b))

@@ -1,5 +1,5 @@
 -- What a suspended token still says: its block is the first two words of the lent one
-use Prim.Native.Nat.{ℕ, _%_}
+use Prim.Native.Nat.{ℕ}
 use mathlib.Core.Bool.{Bool}
 use mathlib.Core.List.{List}
 use lib.ListN as list
@@ -7,7 +7,7 @@ use Rattle.hardware.specs.Talk.{Talk, Call, Res, ok, err, ask, end, andThen, _>
 use Rattle.hardware.specs.declared.Port.{Port}
 use Rattle.hardware.specs.declared.Reply.{Reply}
 use Rattle.reference.specs.Hostif.{tokenStatus}
-use Rattle.hostif.specs.Command.{resumeCommand}
+use Rattle.hostif.specs.Command.{statusOf, resumeCommand}
 use Rattle.hostif.specs.declared.command.Command.{Command}
 use Rattle.hostif.specs.declared.token.Flag.{Flag}
 use Rattle.hostif.specs.declared.token.Flag.the-variants as flag
@@ -18,9 +18,9 @@ abbrev pub flagOf : Flag → Res Bool
 flagOf (flag.Ok v) = ok v
 flagOf (flag.Err e) = err e
 
--- a command's status is a byte (proofs/Bytes.antt); of any other word the lowest byte is
+-- once its command has ended
 abbrev pub tokenGot : Bool → Res ℕ → Call Bool
-tokenGot take got = end got >>= (λ status. tokenStatus take (status % 256))
+tokenGot take got = end (statusOf got) >>= tokenStatus take
 
 abbrev pub tokenAfter : Bool → Talk (Res ℕ × List ℕ) → Call Bool
 tokenAfter take t = andThen t (λ p. tokenGot take (p .0))

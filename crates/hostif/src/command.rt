@@ -3,7 +3,6 @@ use crate::exchange::Exchange;
 use crate::exchange::ExchangeStep;
 use hardware::Action;
 use hardware::Port;
-use hardware::Regs;
 use hardware::Reply;
 use hardware::Unit;
 use hardware::Word;
@@ -43,7 +42,7 @@ pub enum CommandStep {
 }
 
 // locked's end: the body's error, then the release's.
-fn both(result: Word, released: Unit) -> Word
+pub fn both(result: Word, released: Unit) -> Word
     ensures { λ r. ⌜ both (wordOf result) (unitOf released) ≡ wordOf r ⌝ }
 {
     match result {
@@ -99,14 +98,6 @@ impl Command {
         ensures { λ r. ⌜ ((b : List ℕ) → command port b ≡ ask (Read (regs (port .family) .swsm)) (λ x. resumeCommand port r b x)) ⌝ }
     {
         Command::Sync(CommandPlace::Acquiring, Sync::first(port, Bits::SW_MNG))
-    }
-
-    pub fn start(port: Port) -> CommandStep
-        ensures { λ r. ⌜ ((b : List ℕ) → toldCommand port b r ≡ command port b) ⌝ }
-    {
-        let family = port.family;
-        let regs = Regs::of(family);
-        CommandStep::Ask(Action::Read(regs.swsm), Command::first(port))
     }
 
     fn synced(port: Port, place: CommandPlace, step: SyncStep) -> CommandStep

@@ -4,13 +4,16 @@ use crate::command::CommandStep;
 use hardware::Action;
 use hardware::Error;
 use hardware::Port;
+use hardware::Regs;
 use hardware::Reply;
 use hardware::Word;
 ghost use Prim.Native.Nat.{ℕ, _≤_};
 ghost use mathlib.Core.List.{List};
 ghost use mathlib.Core.Path.{_≡_};
 ghost use lib.ListN.{length, take};
-ghost use Rattle.hardware.specs.Talk.{end};
+ghost use Rattle.hardware.specs.Talk.{ask, end};
+ghost use Rattle.hardware.specs.Regs.{regs};
+ghost use Rattle.hardware.specs.declared.Action.the-variants.{Read};
 ghost use Rattle.reference.specs.Hostif.{token, tokenBlock, tokenWord, tokenStatus};
 ghost use Rattle.hostif.specs.Command.{toldCommand};
 ghost use Rattle.hardware.specs.Told.{wordOf};
@@ -107,11 +110,21 @@ impl Token {
         self.put_two(port, block);
     }
 
+    // At its first action, the command's.
+    pub fn first(self, port: Port, block: &mut [u32; 16]) -> Command
+        ensures { λ r. ⌜ token port (self .take) ≡ ask (Read (regs (port .family) .swsm)) (λ x. resumeToken port (self .take) r (now (block .exit)) x) ⌝ }
+    {
+        self.put(port, block);
+        Command::first(port)
+    }
+
     pub fn start(self, port: Port, block: &mut [u32; 16]) -> TokenStep
         ensures { λ r. ⌜ toldToken port (self .take) (now (block .exit)) r ≡ token port (self .take) ⌝ }
     {
-        self.put(port, block);
-        self.after_command(port, Command::start(port))
+        let family = port.family;
+        let regs = Regs::of(family);
+        let state = self.first(port, block);
+        TokenStep::Ask(Action::Read(regs.swsm), state)
     }
 
     pub fn next(self, state: Command, port: Port, block: &mut [u32; 16], reply: Reply) -> TokenStep

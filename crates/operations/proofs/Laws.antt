@@ -1,9 +1,8 @@
 -- The beginnings: an operation's first job, and what comes after it, are the Rust's function
-use Prim.Native.Nat.{ℕ, _<_, _%_}
+use Prim.Native.Nat.{ℕ}
 use mathlib.Core.Bool.{Bool}
 use mathlib.Core.List.{List, []}
 use mathlib.Core.Path.{_≡_, refl, ap, sym, _∙_, fun-ext}
-use native.Mathlib.Omega.{arith}
 use Rattle.hardware.specs.Talk.{Talk, Call, Res, ok, err, end, ask, andThen, orStop, return}
 use Rattle.hardware.specs.Block as blk
 use Rattle.hardware.specs.declared.Port.{Port}
@@ -11,12 +10,12 @@ use Rattle.hardware.proofs.Laws.{then-assoc}
 use Rattle.answers.specs.declared.Value.{Value}
 use Rattle.answers.specs.declared.Value.the-variants as value
 use Rattle.reference.specs.Hostif.{command, token, tokenAnswer, tokenBlock}
-use Rattle.reference.specs.Operations.{Out, answer, nothing}
+use Rattle.reference.specs.Mdio.{readReg, abilities}
+use Rattle.reference.specs.Operations.{answer, nothing}
 use Rattle.hostif.specs.Token.{tokenGot}
-use Rattle.hostif.proofs.Bytes.{command-bytes, cut}
-use Rattle.hostif.proofs.Laws.{token-cut}
+use Rattle.hostif.proofs.Bytes.{status-cut}
 use Rattle.access.specs.Access.{noWord}
-use Rattle.operations.specs.After.{afterNothing, afterCommand}
+use Rattle.operations.specs.After.{afterNothing, afterWord, afterAbilities, afterCommand}
 
 pub nothing-begun : (t : Call (Unit {0})) → andThen (noWord t) (λ p. afterNothing (p .0)) ≡ answer nothing t
 nothing-begun (end (ok _)) = refl
@@ -29,19 +28,19 @@ then-answer t k f =
     ap (λ (u : Talk (Res Value)). andThen u (λ r. end (r, []))) (then-assoc t k (orStop (λ b. return (f b))))
     ∙ then-assoc t (λ a. andThen (k a) (orStop (λ b. return (f b)))) (λ r. end (r, []))
 
+pub word-begun : (t : Call ℕ) → andThen (blk.keep t []) (λ p. afterWord (p .0)) ≡ answer value.Word t
+word-begun t = simp then-assoc
+
+pub abilities-begun : (port : Port) (phy : ℕ) → andThen (blk.keep (readReg port phy 1 4) []) (λ p. afterAbilities (p .0)) ≡ answer value.Abilities (abilities port phy)
+unfolding abilities
+abilities-begun port phy = simp then-assoc
+
 pub token-begun : (port : Port) (take : Bool) → andThen (command port (tokenBlock port take)) (λ p. answer value.Flag (tokenGot take (p .0))) ≡ answer value.Flag (token port take)
 unfolding token
 token-begun port take =
     sym (then-answer (command port (tokenBlock port take)) (λ p. tokenGot take (p .0)) value.Flag)
-    ∙ ap (answer value.Flag) (token-cut port (tokenBlock port take) take)
-
-small : (v : ℕ) → v < 256 → v % 256 ≡ v
-small v h = omega arith
+    ∙ ap (answer value.Flag) (status-cut port (tokenBlock port take) (tokenAnswer take))
 
 pub command-begun : (port : Port) (ws : List ℕ) (n : ℕ)
     → andThen (command port ws) (λ p. afterCommand n (p .0) (p .1)) ≡ blk._>>=_ (command port) (λ status. blk.return (value.Command status n)) ws
-command-begun port ws n =
-    cut (λ p. afterCommand n (p .0) (p .1)) (λ p. blk.orStop (λ status. blk.return (value.Command status n)) (p .0) (p .1))
-    (λ v b h. ap (λ (s : ℕ). blk.return (value.Command s n) b) (small v h))
-    (λ e b. refl)
-    (command-bytes port ws)
+command-begun port ws n = status-cut port ws (λ p. blk.orStop (λ status. blk.return (value.Command status n)) (p .0) (p .1))

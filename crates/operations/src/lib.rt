@@ -1,4 +1,7 @@
 // What an operation does between its accesses.
+pub mod registers;
+
+use crate::registers::Mdio;
 use access::access::Job;
 use activity::Activity;
 use activity::ActivityStep;
@@ -10,6 +13,7 @@ use hardware::Port;
 use hardware::Word;
 use hostif::token::Flag;
 use hostif::token::Token;
+use phy::abilities::speeds_of;
 use words::link::Link;
 ghost use Prim.Native.Nat.{ℕ};
 ghost use mathlib.Core.List.{List};
@@ -20,19 +24,23 @@ ghost use Rattle.answers.specs.declared.Value.the-variants as value;
 ghost use Rattle.reference.specs.Operations.{answer};
 ghost use Rattle.hostif.specs.Token.{tokenGot};
 ghost use Rattle.activity.specs.Activity.{toldActivity};
-ghost use Rattle.operations.specs.After.{afterCommand, afterLink, afterNothing, afterVeto, resumeAfter, toldAfter};
+ghost use Rattle.operations.specs.After.{afterAbilities, afterCommand, afterLink, afterNothing, afterVeto, afterWord, resumeAfter, toldAfter};
 
 // What is left of an operation once its access has ended.
 pub enum After {
-    // acquire, release
+    // acquire, release, write_reg
     Nothing,
+    // read_reg
+    Word,
     Veto,
     Link,
+    Abilities,
     // how many words
     Command(u32),
     // take
     Token(bool),
     Activity(Asked, Activity),
+    Mdio(Mdio),
 }
 
 // Done: the answer, and how many words of the host block belong to it.
@@ -48,6 +56,15 @@ impl After {
         match got {
             Word::Err(e) => AfterStep::Done(Answer::Err(e), 0),
             Word::Ok(_) => AfterStep::Done(Answer::Ok(Value::Nothing), 0),
+        }
+    }
+
+    fn word(port: Port, got: Word) -> AfterStep
+        ensures { λ r. ⌜ ((b : List ℕ) → toldAfter port b r ≡ afterWord (wordOf got)) ⌝ }
+    {
+        match got {
+            Word::Err(e) => AfterStep::Done(Answer::Err(e), 0),
+            Word::Ok(v) => AfterStep::Done(Answer::Ok(Value::Word(v)), 0),
         }
     }
 
@@ -67,6 +84,15 @@ impl After {
         match got {
             Word::Err(e) => AfterStep::Done(Answer::Err(e), 0),
             Word::Ok(v) => AfterStep::Done(Answer::Ok(Value::Link(Link::of(family, v))), 0),
+        }
+    }
+
+    fn abilities(port: Port, got: Word) -> AfterStep
+        ensures { λ r. ⌜ ((b : List ℕ) → toldAfter port b r ≡ afterAbilities (wordOf got)) ⌝ }
+    {
+        match got {
+            Word::Err(e) => AfterStep::Done(Answer::Err(e), 0),
+            Word::Ok(v) => AfterStep::Done(Answer::Ok(Value::Abilities(speeds_of(v))), 0),
         }
     }
 
@@ -110,14 +136,17 @@ impl After {
     {
         match self {
             After::Nothing => After::nothing(port, got),
+            After::Word => After::word(port, got),
             After::Veto => After::veto(port, got),
             After::Link => After::link(port, got),
+            After::Abilities => After::abilities(port, got),
             After::Command(n) => After::command(port, n, got, words),
             After::Token(take) => After::token(port, take, got),
             After::Activity(asked, s) => {
                 let step = s.next(asked, port, block, got, words);
                 After::activity(port, asked, step)
             }
+            After::Mdio(s) => s.next(port, got),
         }
     }
 }

@@ -5,12 +5,11 @@ use mathlib.Core.Bool.{Bool, true, false, not}
 use native.Mathlib.Omega.{arith}
 use Rattle.hardware.specs.Bits.{bit}
 use lib.Bits.{bitAnd}
-use Rattle.hardware.specs.Talk.{Res, return, pick, isClear}
+use Rattle.hardware.specs.Talk.{return, pick, isClear}
 use Rattle.hardware.specs.declared.Family.{Family}
 use Rattle.words.specs.Link.{speed, linkOf}
 use Rattle.words.proofs.Theorems.Link.{up-rust, non-standard-rust, speed-rust}
 use Rattle.words.specs.declared.link.Megabits.{Megabits}
-use Rattle.words.specs.declared.link.Link.{Link}
 use Rattle.words.specs.declared.link.Link.the-variants.{Down, Up}
 use Rattle.reference.specs.Hardware.{megabits, linked}
 

@@ -3,7 +3,7 @@ use Prim.Native.Nat.{ℕ}
 use mathlib.Core.Bool.{Bool, true, false}
 use lib.Bits.{bitOr}
 use Rattle.hardware.specs.Bits.{without}
-use Rattle.hardware.specs.Talk.{Call, Res, ask, end, _>>=_, _>>_, attempt, read, write, delay, flush, pick, return, orStop, checked, done}
+use Rattle.hardware.specs.Talk.{Call, Res, ask, end, _>>=_, _>>_, attempt, read, write, delay, flush, pick, return, checked, done}
 use Rattle.hardware.specs.Told.{unitOf}
 use Rattle.hardware.specs.declared.Regs.{Regs}
 use Rattle.hardware.specs.declared.Reply.{Reply}

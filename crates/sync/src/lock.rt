@@ -7,7 +7,7 @@ use hardware::Reply;
 use hardware::Unit;
 use hardware::Word;
 ghost use mathlib.Core.Path.{_≡_};
-ghost use Rattle.hardware.specs.Told.{wordOf, unitOf};
+ghost use Rattle.hardware.specs.Told.{wordOf};
 ghost use Rattle.reference.specs.Sync.{smbi, smbiTimes, clear, regsmpTimes, lock, unlock};
 ghost use Rattle.sync.specs.Lock.{
   resumeSmbi,

@@ -1,82 +1,20 @@
--- How many arguments an operation takes, and where they stand in the buffer
-use Prim.Native.Nat.{ℕ, zero, suc}
+-- Where the arguments stand in the buffer, and what the line is then
+use Prim.Native.Nat.{ℕ, suc}
 use mathlib.Core.Path.{_≡_, refl, ap, sym, _∙_}
 use mathlib.Core.Bool.{Bool, true, false}
 use mathlib.Core.List.{List, [], _∷_}
 use native.Mathlib.Omega.{arith}
-use lib.Dec.{eqb, leb}
-use lib.ListN.{length, getD, set, take, drop}
+use lib.ListN.{length, set, take, drop}
 use lib.Seq.{sets, take-nil}
 use Rattle.hardware.specs.Talk.{pick}
 use Rattle.text.specs.Hex.{hexWord}
 use Rattle.text.specs.declared.Number.{Number}
 use Rattle.text.specs.declared.Number.the-variants as number
-use Rattle.conversation.specs.declared.operation.Operation.{Operation}
 use Rattle.trace.specs.Arguments.{numbers, allNumbers, before, isNumber, argumentsOf}
-use Rattle.trace.specs.Operation.{noMore, withWord, withHalf, withTruth, byName, operationOf}
+use Rattle.trace.specs.Operation.{byName, operationOf}
 use Rattle.trace.specs.declared.arguments.Arguments.the-variants as arguments
-use Rattle.trace.specs.declared.operation.OperationLine.{OperationLine}
-use Rattle.trace.specs.declared.operation.OperationLine.the-variants.{Is, Bad}
-
--- where there are more or fewer than k words, the line is bad
-abbrev pub Takes : ℕ → (List ℕ → OperationLine) → Type 0
-Takes k f = (vs : List ℕ) → (length vs ≡ k → ⊥) → f vs ≡ Bad
-
-either-bad : (b : Bool) {r : OperationLine} → r ≡ Bad → pick b r Bad ≡ Bad
-either-bad true e = e
-either-bad false e = refl
-
-pub takes-none : (what : Operation) → Takes 0 (noMore what)
-unfolding noMore
-takes-none what [] h = absurd (h refl)
-takes-none what (v ∷ vs) h = refl
-
-pub takes-word : {k : ℕ} {next : ℕ → List ℕ → OperationLine} → ((v : ℕ) → Takes k (next v)) → Takes (suc k) (withWord next)
-unfolding withWord
-takes-word t [] h = refl
-takes-word t (v ∷ vs) h = t v vs (λ e. h (ap suc e))
-
-pub takes-half : {k : ℕ} {next : ℕ → List ℕ → OperationLine} → ((v : ℕ) → Takes k (next v)) → Takes (suc k) (withHalf next)
-unfolding withHalf
-takes-half t [] h = refl
-takes-half t (v ∷ vs) h = either-bad (leb v 0xffff) (t v vs (λ e. h (ap suc e)))
-
-pub takes-truth : {k : ℕ} {next : Bool → List ℕ → OperationLine} → ((b : Bool) → Takes k (next b)) → Takes (suc k) (withTruth next)
-unfolding withTruth
-takes-truth t [] h = refl
-takes-truth t (v ∷ vs) h = either-bad (leb v 1) (t (eqb v 1) vs (λ e. h (ap suc e)))
-
-pub half-next : (next : ℕ → List ℕ → OperationLine) (v : ℕ) (vs : List ℕ) → withHalf next (v ∷ vs) ≡ pick (leb v 0xffff) (next v vs) Bad
-unfolding withHalf
-half-next next v vs = refl
-
-pub truth-next : (next : Bool → List ℕ → OperationLine) (v : ℕ) (vs : List ℕ) → withTruth next (v ∷ vs) ≡ pick (leb v 1) (next (eqb v 1) vs) Bad
-unfolding withTruth
-truth-next next v vs = refl
-
-pub none-done : (what : Operation) → noMore what [] ≡ Is what 0
-unfolding noMore
-none-done what = refl
-
-pub word-next : (next : ℕ → List ℕ → OperationLine) (v : ℕ) (vs : List ℕ) → withWord next (v ∷ vs) ≡ next v vs
-unfolding withWord
-word-next next v vs = refl
-
--- the k words from a place on, one by one
-abbrev pub wordsAt : ℕ → ℕ → List ℕ → List ℕ
-wordsAt zero i vs = []
-wordsAt (suc k) i vs = getD vs i 0 ∷ wordsAt k (suc i) vs
-
-behind : (k i : ℕ) (v : ℕ) (vs : List ℕ) → wordsAt k (suc i) (v ∷ vs) ≡ wordsAt k i vs
-behind zero i v vs = refl
-behind (suc k) i v vs = ap (λ (l : List ℕ). getD vs i 0 ∷ l) (behind k (suc i) v vs)
-
--- where there are k words, they are these
-pub all-words : (k : ℕ) (vs : List ℕ) → length vs ≡ k → vs ≡ wordsAt k 0 vs
-all-words zero [] h = refl
-all-words zero (v ∷ vs) h = absurd (omega arith)
-all-words (suc k) [] h = absurd (omega arith)
-all-words (suc k) (v ∷ vs) h = ap (λ (l : List ℕ). v ∷ l) (all-words k vs (omega arith) ∙ sym (behind k 0 v vs))
+use Rattle.trace.specs.declared.kinds.OperationLine.{OperationLine}
+use Rattle.trace.specs.declared.kinds.OperationLine.the-variants.{Bad}
 
 -- words that were stored from the front on stand there, as far as there is room
 sets-behind : (x : ℕ) (l : List ℕ) (i : ℕ) (vs : List ℕ) → sets (x ∷ l) (suc i) vs ≡ x ∷ sets l i vs

@@ -1,4 +1,6 @@
 pub mod Port
+pub mod Kinds
+pub mod Mdio
 pub mod Operation
 pub mod Reply
 pub mod Listing

@@ -1,8 +1,6 @@
 -- The operation line: a name, then argument words
 use Prim.Native.Nat.{ℕ}
-use mathlib.Core.Bool.{Bool}
 use mathlib.Core.List.{List, [], _∷_}
-use lib.Dec.{eqb, leb}
 use lib.ListN.{length, take}
 use Rattle.hardware.specs.Talk.{pick}
 use Rattle.text.specs.Same.{same}
@@ -10,29 +8,10 @@ use Rattle.activity.specs.declared.Asked.{Asked}
 use Rattle.conversation.specs.declared.operation.Operation.{Operation}
 use Rattle.conversation.specs.declared.operation.Operation.the-variants.{Veto, Link, Acquire, Release, Command, Token, PhyActivity}
 use Rattle.trace.specs.Arguments.{numbers, allNumbers}
-use Rattle.trace.specs.declared.operation.OperationLine.{OperationLine}
-use Rattle.trace.specs.declared.operation.OperationLine.the-variants.{Is, Bad}
-
--- Arguments are taken one by one from the values of the words behind the name. At the end no word is left, and none of them
--- was a host block's
-unfoldable pub noMore : Operation → List ℕ → OperationLine
-noMore what [] = Is what 0
-noMore what (v ∷ vs) = Bad
-
--- any word, and what goes on from it
-unfoldable pub withWord : (ℕ → List ℕ → OperationLine) → List ℕ → OperationLine
-withWord next [] = Bad
-withWord next (v ∷ vs) = next v vs
-
--- a word whose upper half is clear
-unfoldable pub withHalf : (ℕ → List ℕ → OperationLine) → List ℕ → OperationLine
-withHalf next [] = Bad
-withHalf next (v ∷ vs) = pick (leb v 0xffff) (next v vs) Bad
-
--- 0 or 1
-unfoldable pub withTruth : (Bool → List ℕ → OperationLine) → List ℕ → OperationLine
-withTruth next [] = Bad
-withTruth next (v ∷ vs) = pick (leb v 1) (next (eqb v 1) vs) Bad
+use Rattle.trace.specs.Kinds.{noMore, withWord, withHalf, withTruth}
+use Rattle.trace.specs.Mdio.{mdioName}
+use Rattle.trace.specs.declared.kinds.OperationLine.{OperationLine}
+use Rattle.trace.specs.declared.kinds.OperationLine.the-variants.{Is, Bad}
 
 -- all words are the host block's
 abbrev pub withBlock : Operation → List ℕ → OperationLine
@@ -45,13 +24,13 @@ abbrev pub withActivity : List ℕ → OperationLine
 withActivity =
     withHalf λ activity. withWord λ d0. withWord λ d1. withWord λ d2. withWord λ d3. noMore (PhyActivity (asked activity d0 d1 d2 d3))
 
--- `command`, `token`, `phy_activity`
+-- `command`, `token`, `phy_activity`, or one of mdio.rs
 unfoldable pub hostifName : List ℕ → List ℕ → OperationLine
 hostifName w vs =
     pick (same w (99 ∷ 111 ∷ 109 ∷ 109 ∷ 97 ∷ 110 ∷ 100 ∷ [])) (withBlock Command vs)
     (pick (same w (116 ∷ 111 ∷ 107 ∷ 101 ∷ 110 ∷ [])) (withTruth (λ take. noMore (Token take)) vs)
     (pick (same w (112 ∷ 104 ∷ 121 ∷ 95 ∷ 97 ∷ 99 ∷ 116 ∷ 105 ∷ 118 ∷ 105 ∷ 116 ∷ 121 ∷ [])) (withActivity vs)
-    Bad))
+    (mdioName w vs)))
 
 -- `veto`, `link`, `acquire`, `release`, or one of the above
 unfoldable pub byName : List ℕ → List ℕ → OperationLine

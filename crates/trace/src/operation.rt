@@ -1,41 +1,23 @@
 // The second line: an operation's name, then its arguments.
 use crate::arguments::Arguments;
 use crate::arguments::read;
+use crate::kinds::OperationLine;
+use crate::kinds::is_name;
+use crate::kinds::no_more;
+use crate::registers::mdio_named;
 use activity::Asked;
 use answers::Words;
 use conversation::operation::Operation;
 use text::Span;
-use text::is;
 use text::word;
 ghost use mathlib.Core.Path.{_≡_};
 ghost use lib.ListN.{take, drop};
 ghost use lib.Seq.{sets};
-ghost use Rattle.text.specs.Same.{same};
 ghost use Rattle.text.specs.Words.{words};
 ghost use Rattle.conversation.specs.declared.operation.Operation.the-variants as operation;
 ghost use Rattle.trace.specs.Arguments.{numbers};
-ghost use Rattle.trace.specs.Operation.{noMore, withWord, withTruth, withBlock, withActivity, hostifName, byName, operationOf};
-
-// An operation, and how many of the argument words are its host block.
-pub enum OperationLine {
-    Is(Operation, usize),
-    Bad,
-}
-
-fn is_name(word: &[u8], name: &[u8]) -> bool
-    ensures { λ r. ⌜ same (now (word .entry)) (now (name .entry)) ≡ r ⌝ }
-{
-    is(word, 0, word.len(), name)
-}
-
-fn no_more(what: Operation, args: &[u32]) -> OperationLine
-    ensures { λ r. ⌜ noMore what (now (args .entry)) ≡ r ⌝ }
-{
-    if args.len() != 0 {
-        return OperationLine::Bad;
-    }
-    OperationLine::Is(what, 0)
-}
+ghost use Rattle.trace.specs.Kinds.{noMore, withWord, withTruth};
+ghost use Rattle.trace.specs.Operation.{withBlock, withActivity, hostifName, byName, operationOf};
 
 fn acquire(args: &[u32]) -> OperationLine
     ensures { λ r. ⌜ withWord (λ mask. noMore (operation.Acquire mask)) (now (args .entry)) ≡ r ⌝ }
@@ -107,7 +89,7 @@ fn hostif_named(name: &[u8], args: &[u32]) -> OperationLine
     if is_name(name, b"phy_activity") {
         return phy_activity(args);
     }
-    OperationLine::Bad
+    mdio_named(name, args)
 }
 
 fn named(name: &[u8], args: &[u32]) -> OperationLine

@@ -12,8 +12,8 @@ use hardware::Unit;
 use libc::STDIN_FILENO;
 use libc::STDOUT_FILENO;
 use text::Written;
+use trace::kinds::OperationLine;
 use trace::lines::Seen;
-use trace::operation::OperationLine;
 use trace::port::PortLine;
 use trace::reply::ReplyLine;
 

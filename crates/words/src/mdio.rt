@@ -44,25 +44,25 @@ impl Command {
 }
 
 // mdio.rs `address`. The document's word for a PHY and a device below 32, which is all that `begin` lets through.
-pub fn address(phy: u8, dev: u8, reg: u16) -> u32
+pub fn address(phy: u32, dev: u32, reg: u16) -> u32
     ensures { λ r. ⌜ address phy dev reg ≡ r ⌝ }
 {
-    reg as u32 | (dev as u32) << 16 | (phy as u32) << 21
+    reg as u32 | dev << 16 | phy << 21
 }
 
-pub fn address_cycle(phy: u8, dev: u8, reg: u16) -> u32
+pub fn address_cycle(phy: u32, dev: u32, reg: u16) -> u32
     ensures { λ r. ⌜ addressCycle phy dev reg ≡ r ⌝ }
 {
     address(phy, dev, reg) | Command::GO
 }
 
-pub fn read_cycle(phy: u8, dev: u8, reg: u16) -> u32
+pub fn read_cycle(phy: u32, dev: u32, reg: u16) -> u32
     ensures { λ r. ⌜ readCycle phy dev reg ≡ r ⌝ }
 {
     address(phy, dev, reg) | Command::OP_READ | Command::GO
 }
 
-pub fn write_cycle(phy: u8, dev: u8, reg: u16) -> u32
+pub fn write_cycle(phy: u32, dev: u32, reg: u16) -> u32
     ensures { λ r. ⌜ writeCycle phy dev reg ≡ r ⌝ }
 {
     address(phy, dev, reg) | Command::OP_WRITE | Command::GO

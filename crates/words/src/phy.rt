@@ -7,8 +7,8 @@ pub enum PhyId {
     Id(u32),
 }
 
-// What `probe` makes of registers 2 and 3.
-pub fn phy_id(high: u16, low: u16) -> PhyId
+// What `probe` makes of registers 2 and 3, each in the low half of a word.
+pub fn phy_id(high: u32, low: u32) -> PhyId
     ensures { λ r. ⌜ phyId high low ≡ r ⌝ }
 {
     if high == 0 {
@@ -17,5 +17,5 @@ pub fn phy_id(high: u16, low: u16) -> PhyId
     if high == 0xffff {
         return PhyId::Nothing;
     }
-    PhyId::Id((high as u32) << 16 | low as u32 & 0xfff0)
+    PhyId::Id(high << 16 | low & 0xfff0)
 }

@@ -12,6 +12,10 @@ pub struct Bits {
 impl Bits {
     pub const EEP: u32 = 0x1;
 
+    pub const PHY0: u32 = 0x2;
+
+    pub const PHY1: u32 = 0x4;
+
     pub const FLASH: u32 = 0x10;
 
     pub const SW_MNG: u32 = 0x400;

@@ -1,5 +1,5 @@
 -- hostif.rs: actions and microseconds at the most
-use Prim.Native.Nat.{ℕ, _+_, _-_, _*_, _≤_}
+use Prim.Native.Nat.{ℕ, _+_, _-_, _≤_}
 use mathlib.Core.Bool.{Bool, not, _||_}
 use mathlib.Core.List.{List}
 use native.Mathlib.Omega.{arith}

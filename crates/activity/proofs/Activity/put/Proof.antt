@@ -1,8 +1,10 @@
+use mathlib.Core.List.{[], _∷_}
+use mathlib.Core.Path.{_∙_}
 use borrow.Author.Needs.{needs}
 use native.Mathlib.Omega.{arith}
 use lib.ListN.{length-set}
 use Rattle.reference.specs.Hostif.{activityBlock}
-use Rattle.activity.proofs.Laws.{six}
+use Rattle.hostif.proofs.Laws.{stored}
 use Rattle.activity.proofs.Activity.put.Statement.{statement}
 use Rattle.activity.proofs.Activity.put.Tie as tie
 
@@ -10,8 +12,8 @@ returns : tie.Need-returns
 unfolding activityBlock
 returns c =
     let start = c .before .before .before .before .before .before .before .before in
-    simp (
-      six (start .args .block .now) (start .pre),
+    stored (_ ∷ _ ∷ _ ∷ _ ∷ _ ∷ _ ∷ []) (start .args .block .now) (start .pre)
+    ∙ simp (
       c .before .before .before .swap-bytes .ensures,
       c .before .before .swap-bytes2 .ensures,
       c .before .swap-bytes3 .ensures,

@@ -20,4 +20,5 @@ hostif-named-spec =
     (λ c κs. search needs)
     (λ c κs. search needs)
     (λ c. simp (c .before .before .before .before .before .before .before .before .is-name .ensures, c .before .before .before .before .before .before .before .if1 .left, c .before .before .before .before .before .is-name2 .ensures, c .before .before .before .before .if2 .left, c .before .before .is-name3 .ensures, c .before .if3 .taken, c .phy-activity .ensures))
-    (λ c. simp (c .before .before .before .before .before .before .before .is-name .ensures, c .before .before .before .before .before .before .if1 .left, c .before .before .before .before .is-name2 .ensures, c .before .before .before .if2 .left, c .before .is-name3 .ensures, c .if3 .left)))
+    (λ c κs. search needs)
+    (λ c. simp (c .before .before .before .before .before .before .before .before .is-name .ensures, c .before .before .before .before .before .before .before .if1 .left, c .before .before .before .before .before .is-name2 .ensures, c .before .before .before .before .if2 .left, c .before .before .is-name3 .ensures, c .before .if3 .left, c .mdio-named .ensures)))

@@ -1,6 +1,6 @@
 use borrow.Author.Needs.{needs}
 use borrow.Author.Tests.{le-leb, lt-leb}
-use Rattle.trace.proofs.OperationLaws.{takes-none, takes-word, takes-half, all-words, none-done, word-next, half-next}
+use Rattle.trace.proofs.KindLaws.{takes-none, takes-word, takes-half, all-words, none-done, word-next, half-next}
 use Rattle.trace.proofs.operation.phy_activity.Statement.{statement}
 use Rattle.trace.proofs.operation.phy_activity.Tie as tie
 
@@ -8,7 +8,7 @@ pub phy-activity-spec : {M : Type 1} → statement M
 phy-activity-spec =
     tie.close
     (tie.spec
-    (λ c. takes-half (λ _. takes-word (λ _. takes-word (λ _. takes-word (λ _. takes-word (λ _. takes-none _))))) _ (c .if1 .taken))
+    (λ c. takes-half (λ _. takes-word (λ _. takes-word (λ _. takes-word (λ _. takes-word (λ _. takes-none _))))) _ (c .if1 .taken) (c .if1 .taken))
     (λ c. search needs)
     (λ c. rw (all-words 5 (c .before .before .before .args .args .now) (c .before .before .if1 .left)) (simp (half-next, lt-leb _ _ (c .if2 .taken))))
     (λ c. search needs)

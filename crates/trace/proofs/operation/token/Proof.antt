@@ -1,6 +1,6 @@
 use borrow.Author.Needs.{needs}
 use borrow.Author.Tests.{le-leb, lt-leb}
-use Rattle.trace.proofs.OperationLaws.{takes-none, takes-truth, all-words, none-done, truth-next}
+use Rattle.trace.proofs.KindLaws.{takes-none, takes-truth, all-words, none-done, truth-next}
 use Rattle.trace.proofs.operation.token.Statement.{statement}
 use Rattle.trace.proofs.operation.token.Tie as tie
 
@@ -8,7 +8,7 @@ pub token-spec : {M : Type 1} → statement M
 token-spec =
     tie.close
     (tie.spec
-    (λ c. takes-truth (λ _. takes-none _) _ (c .if1 .taken))
+    (λ c. takes-truth (λ _. takes-none _) _ (c .if1 .taken) (c .if1 .taken))
     (λ c. search needs)
     (λ c. rw (all-words 1 (c .before .before .before .args .args .now) (c .before .before .if1 .left)) (simp (truth-next, lt-leb _ _ (c .if2 .taken))))
     (λ c. search needs)

@@ -10,4 +10,5 @@ acquire-spec =
     (tie.spec
     (λ c κs. search needs)
     (λ c κs. search needs)
-    (λ c. simp (c .before .acquire .ensures, c .held .ensures)))
+    (λ c κs. search needs)
+    (λ c. simp (c .before .before .acquire .ensures, c .before .alone .ensures, c .under .ensures)))

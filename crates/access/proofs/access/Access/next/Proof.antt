@@ -18,4 +18,4 @@ next-spec =
     (λ c. simp (c .before .enum-told .given .1, c .checked .ensures))
     (λ c. simp (c .enum-told2 .given .1))
     (λ c. simp (c .before .before .before .before .self .given .1, c .before .next-of .ensures, c .commanded .ensures))
-    (λ c. simp (c .before .before .before .before .self2 .given .1, c .before .next .ensures, c .held .ensures)))
+    (λ c. simp (c .before .before .before .before .self2 .given .1, c .before .next .ensures, c .under .ensures)))

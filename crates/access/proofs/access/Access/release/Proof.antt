@@ -10,4 +10,5 @@ release-spec =
     (tie.spec
     (λ c κs. search needs)
     (λ c κs. search needs)
-    (λ c. simp (c .before .release .ensures, c .held .ensures)))
+    (λ c κs. search needs)
+    (λ c. simp (c .before .before .release .ensures, c .before .alone .ensures, c .under .ensures)))

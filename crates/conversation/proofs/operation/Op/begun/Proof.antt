@@ -7,4 +7,4 @@ begun-spec =
     tie.close
     (tie.spec
     (λ c κs. search needs)
-    (λ c. λ b. simp (c .start .ensures)))
+    (λ c. simp (c .start .ensures)))

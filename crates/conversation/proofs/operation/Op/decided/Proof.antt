@@ -9,5 +9,5 @@ decided-spec =
     (λ c. search needs)
     (λ c κs. search needs)
     (λ c. search needs)
-    (λ c. λ b. simp (c .before .before .step .given .1, c .begun .ensures))
-    (λ c. λ b. simp (c .before .step2 .given .1)))
+    (λ c. simp (c .before .before .before .step .given .1, c .begun .ensures))
+    (λ c. simp (c .before .step2 .given .1)))

@@ -11,4 +11,4 @@ stepped-spec =
     (λ c κs. search needs)
     (λ c κs. search needs)
     (λ c. simp (c .before .step .given .1))
-    (λ c. simp (c .before .before .before .before .step2 .given .1, c .before .next .ensures, c .decided .ensures)))
+    (λ c. simp (c .before .before .before .before .before .step2 .given .1, c .before .before .next .ensures, c .decided .ensures)))

@@ -1,0 +1,16 @@
+use Rattle.hardware.proofs.Laws.{then-assoc}
+use borrow.Author.Needs.{needs}
+use Rattle.operations.proofs.registers.Mdio.modify.Statement.{statement}
+use Rattle.operations.proofs.registers.Mdio.modify.Tie as tie
+
+pub modify-spec : {M : Type 1} → statement M
+modify-spec =
+    tie.close
+    (tie.spec
+    (λ c. search needs)
+    (λ c. search needs)
+    (λ c. search needs)
+    (λ c. search needs)
+    (λ c. λ b. simp (c .before .step .given .1, then-assoc))
+    (λ c. λ b. simp (c .before .before .before .before .step2 .given .1, c .before .r .given .1))
+    (λ c. λ b. simp (c .before .before .before .before .step2 .given .1, c .before .r2 .given .1)))

@@ -1,0 +1,6 @@
+pub mod Advertise
+pub mod AnLink
+pub mod Modify
+pub mod Probe
+pub mod Reset
+pub mod Scan
