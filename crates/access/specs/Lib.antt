@@ -1,3 +1,4 @@
 pub mod Access
+pub mod Body
 pub mod Hold
 pub mod Locked

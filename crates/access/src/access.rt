@@ -1,4 +1,5 @@
 // What an operation asks for between two decisions of its own: an action, or what is done under a lock, suspended at an action.
+use crate::body::Held;
 use crate::hold::Hold;
 use crate::locked::Locked;
 use crate::locked::LockedStep;
@@ -7,10 +8,12 @@ use hardware::Family;
 use hardware::Port;
 use hardware::Regs;
 use hardware::Reply;
+use hardware::Unit;
 use hardware::Word;
 use hostif::command::Command;
 use hostif::command::CommandStep;
 use mdio::mdio::Wanted;
+use sideband::kr::KrWanted;
 use words::mdio::address;
 use words::semaphore::Bits;
 ghost use Prim.Native.Nat.{ℕ};
@@ -29,6 +32,8 @@ ghost use Rattle.access.specs.Access.{jobTalk, noWord, underTalk, resume
 pub enum Job {
     // register
     Read(u32),
+    // register, value
+    Write(u32, u32),
     // microseconds
     Wait(u32),
     // hostif.rs's `command`: how many words, the first of the host block
@@ -37,10 +42,17 @@ pub enum Job {
     ReadReg(u32, u32, u16),
     // with the value
     WriteReg(u32, u32, u16, u16),
+    // address
+    KrRead(u32),
+    // with the value
+    KrWrite(u32, u32),
+    // nvm_word
+    NvmWord(u16),
 }
 
 pub enum Access {
     Reading,
+    Writing,
     Waiting,
     // how many words
     Command(usize, Command),
@@ -79,13 +91,17 @@ fn mask(port: Port) -> u32
 }
 
 impl Begun {
-    fn under(port: Port, wanted: Wanted, block: &mut [u32; 16]) -> Begun
-        ensures { λ r. ⌜ underTalk port wanted ≡ ask (r .action) (λ x. resumeAccess port (r .access) (now (block .exit)) x) ⌝ }
+    // x552.rs's KR_LOCK: both PHY bits, whichever the lan.
+    pub const KR_LOCK: u32 = Bits::PHY0 | Bits::PHY1;
+
+    pub const NVM_LOCK: u32 = Bits::EEP | Bits::SW_MNG;
+
+    fn under(port: Port, mask: u32, held: Held, block: &mut [u32; 16]) -> Begun
+        ensures { λ r. ⌜ underTalk port mask held ≡ ask (r .action) (λ x. resumeAccess port (r .access) (now (block .exit)) x) ⌝ }
     {
         let family = port.family;
         let regs = Regs::of(family);
-        let mask = mask(port);
-        let state = Locked::first(port, mask, wanted, block);
+        let state = Locked::first(port, mask, held, block);
         Begun {
             action: Action::Read(regs.swsm),
             access: Access::Under(mask, state),
@@ -103,6 +119,10 @@ impl Job {
                 action: Action::Read(reg),
                 access: Access::Reading,
             },
+            Job::Write(reg, value) => Begun {
+                action: Action::Write(reg, value),
+                access: Access::Writing,
+            },
             Job::Wait(micros) => Begun {
                 action: Action::Wait(micros),
                 access: Access::Waiting,
@@ -117,12 +137,21 @@ impl Job {
             }
             Job::ReadReg(phy, device, reg) => {
                 let wanted = Wanted::Read(address(phy, device, reg));
-                Begun::under(port, wanted, block)
+                Begun::under(port, mask(port), Held::Mdio(wanted), block)
             }
             Job::WriteReg(phy, device, reg, value) => {
                 let wanted = Wanted::Write(address(phy, device, reg), value);
-                Begun::under(port, wanted, block)
+                Begun::under(port, mask(port), Held::Mdio(wanted), block)
             }
+            Job::KrRead(address) => {
+                let wanted = KrWanted::Read(address);
+                Begun::under(port, Begun::KR_LOCK, Held::Kr(wanted), block)
+            }
+            Job::KrWrite(address, value) => {
+                let wanted = KrWanted::Write(address, value);
+                Begun::under(port, Begun::KR_LOCK, Held::Kr(wanted), block)
+            }
+            Job::NvmWord(word) => Begun::under(port, Begun::NVM_LOCK, Held::Nvm(word), block),
         }
     }
 }
@@ -166,6 +195,10 @@ impl Access {
     {
         match self {
             Access::Reading => AccessStep::Done(reply.checked(), 0),
+            Access::Writing => match reply.done() {
+                Unit::Ok => AccessStep::Done(Word::Ok(0), 0),
+                Unit::Err(e) => AccessStep::Done(Word::Err(e), 0),
+            },
             Access::Waiting => AccessStep::Done(Word::Ok(0), 0),
             Access::Command(words, s) => {
                 let step = s.next_of(words, port, block, reply);

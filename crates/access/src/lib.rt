@@ -1,3 +1,4 @@
 pub mod access;
+pub mod body;
 pub mod hold;
 pub mod locked;

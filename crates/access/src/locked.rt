@@ -1,4 +1,7 @@
 // sync.rs's `locked`, a body under a mask, and `acquire` and `release` by themselves.
+use crate::body::Body;
+use crate::body::BodyStep;
+use crate::body::Held;
 use crate::hold::Hold;
 use crate::hold::HoldStep;
 use hardware::Action;
@@ -7,9 +10,6 @@ use hardware::Reply;
 use hardware::Unit;
 use hardware::Word;
 use hostif::command::both;
-use mdio::mdio::Mdio;
-use mdio::mdio::MdioStep;
-use mdio::mdio::Wanted;
 ghost use Prim.Native.Nat.{ℕ};
 ghost use mathlib.Core.List.{List};
 ghost use mathlib.Core.Path.{_≡_};
@@ -18,7 +18,7 @@ ghost use Rattle.hardware.specs.Regs.{regs};
 ghost use Rattle.hardware.specs.declared.Action.the-variants.{Read};
 ghost use Rattle.hardware.specs.Told.{wordOf};
 ghost use Rattle.reference.specs.Acquire.{hwOf};
-ghost use Rattle.mdio.specs.Mdio.{toldMdio};
+ghost use Rattle.access.specs.Body.{toldBody};
 ghost use Rattle.access.specs.Hold.{toldHold};
 ghost use Rattle.access.specs.Locked.{
   lockedTalk,
@@ -36,14 +36,14 @@ pub enum HoldPlace {
     // for itself
     Alone,
     // for this body
-    Acquiring(Wanted),
+    Acquiring(Held),
     // with what the body gave
     Releasing(Word),
 }
 
 pub enum Locked {
     Hold(HoldPlace, Hold),
-    Body(Wanted, Mdio),
+    Body(Body),
 }
 
 pub enum LockedStep {
@@ -68,37 +68,31 @@ impl Locked {
     fn acquired(
         port: Port,
         mask: u32,
-        wanted: Wanted,
+        held: Held,
         block: &mut [u32; 16],
         step: HoldStep,
     ) -> LockedStep
-        ensures { λ r. ⌜ toldLocked port mask (now (block .exit)) r ≡ lockedAcquired port mask wanted (toldHold port (hwOf mask) (now (block .entry)) step) ⌝ }
+        ensures { λ r. ⌜ toldLocked port mask (now (block .exit)) r ≡ lockedAcquired port mask held (toldHold port (hwOf mask) (now (block .entry)) step) ⌝ }
     {
         match step {
-            HoldStep::Ask(a, s) => LockedStep::Ask(
-                a,
-                Locked::Hold(HoldPlace::Acquiring(wanted), s),
-            ),
+            HoldStep::Ask(a, s) => LockedStep::Ask(a, Locked::Hold(HoldPlace::Acquiring(held), s)),
             HoldStep::Done(r) => match r {
-                Unit::Ok => Locked::after_body(port, mask, wanted, block, Mdio::start(wanted)),
+                Unit::Ok => {
+                    let step = Body::start(held, block);
+                    Locked::after_body(port, mask, block, step)
+                }
                 Unit::Err(e) => LockedStep::Done(Word::Err(e)),
             },
         }
     }
 
     // Whatever the body gave, the mask is given back.
-    fn after_body(
-        port: Port,
-        mask: u32,
-        wanted: Wanted,
-        block: &mut [u32; 16],
-        step: MdioStep,
-    ) -> LockedStep
-        ensures { λ r. ⌜ toldLocked port mask (now (block .exit)) r ≡ lockedAfterBody port mask (toldMdio wanted step) ⌝ }
+    fn after_body(port: Port, mask: u32, block: &mut [u32; 16], step: BodyStep) -> LockedStep
+        ensures { λ r. ⌜ toldLocked port mask (now (block .exit)) r ≡ lockedAfterBody port mask (toldBody (now (block .entry)) step) ⌝ }
     {
         match step {
-            MdioStep::Ask(a, s) => LockedStep::Ask(a, Locked::Body(wanted, s)),
-            MdioStep::Done(result) => {
+            BodyStep::Ask(a, s) => LockedStep::Ask(a, Locked::Body(s)),
+            BodyStep::Done(result) => {
                 let step = Hold::release(port, mask, block);
                 Locked::released(port, mask, result, step)
             }
@@ -118,11 +112,11 @@ impl Locked {
     }
 
     // At its first action, acquire's read of SWSM.
-    pub fn first(port: Port, mask: u32, wanted: Wanted, block: &mut [u32; 16]) -> Locked
-        ensures { λ r. ⌜ lockedTalk port mask wanted ≡ ask (Read (regs (port .family) .swsm)) (λ x. resumeLocked port mask r (now (block .exit)) x) ⌝ }
+    pub fn first(port: Port, mask: u32, held: Held, block: &mut [u32; 16]) -> Locked
+        ensures { λ r. ⌜ lockedTalk port mask held ≡ ask (Read (regs (port .family) .swsm)) (λ x. resumeLocked port mask r (now (block .exit)) x) ⌝ }
     {
         let state = Hold::first(port, mask, block);
-        Locked::Hold(HoldPlace::Acquiring(wanted), state)
+        Locked::Hold(HoldPlace::Acquiring(held), state)
     }
 
     fn held(
@@ -136,7 +130,7 @@ impl Locked {
     {
         match place {
             HoldPlace::Alone => Locked::alone(port, mask, step),
-            HoldPlace::Acquiring(wanted) => Locked::acquired(port, mask, wanted, block, step),
+            HoldPlace::Acquiring(held) => Locked::acquired(port, mask, held, block, step),
             HoldPlace::Releasing(result) => Locked::released(port, mask, result, step),
         }
     }
@@ -149,9 +143,9 @@ impl Locked {
                 let step = s.next(port, mask & !Hold::TOKEN, block, reply);
                 Locked::held(port, mask, block, place, step)
             }
-            Locked::Body(wanted, s) => {
-                let step = s.next(wanted, reply);
-                Locked::after_body(port, mask, wanted, block, step)
+            Locked::Body(s) => {
+                let step = s.next(block, reply);
+                Locked::after_body(port, mask, block, step)
             }
         }
     }

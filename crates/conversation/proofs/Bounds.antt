@@ -33,6 +33,13 @@ fits-begun (operationv.Reset phy x557) ws h = operation-fits _ (omega arith)
 fits-begun (operationv.Abilities phy) ws h = operation-fits _ (omega arith)
 fits-begun (operationv.Advertise asked) ws h = operation-fits _ (omega arith)
 fits-begun (operationv.AnLink phy) ws h = operation-fits _ (omega arith)
+fits-begun (operationv.KrRead address) ws h = operation-fits _ (omega arith)
+fits-begun (operationv.KrWrite address value) ws h = operation-fits _ (omega arith)
+fits-begun (operationv.KrModify c) ws h = operation-fits _ (omega arith)
+fits-begun operationv.RestartAn ws h = operation-fits _ (omega arith)
+fits-begun (operationv.KrAutoneg kr kx) ws h = operation-fits _ (omega arith)
+fits-begun (operationv.NvmWord word) ws h = operation-fits _ (omega arith)
+fits-begun operationv.AfterReset ws h = operation-fits _ (omega arith)
 
 -- a bound of a talk that does not come near 2 ^ 64
 pub record Short (t : Talk Out) : Type 0 where

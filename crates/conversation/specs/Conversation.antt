@@ -48,6 +48,13 @@ phyOf (operationv.Reset phy x557) = phy
 phyOf (operationv.Abilities phy) = phy
 phyOf (operationv.Advertise asked) = asked .phy
 phyOf (operationv.AnLink phy) = phy
+phyOf (operationv.KrRead address) = 0
+phyOf (operationv.KrWrite address value) = 0
+phyOf (operationv.KrModify c) = 0
+phyOf operationv.RestartAn = 0
+phyOf (operationv.KrAutoneg kr kx) = 0
+phyOf (operationv.NvmWord word) = 0
+phyOf operationv.AfterReset = 0
 
 unfoldable pub deviceOf : Operation → ℕ
 deviceOf operationv.Veto = 0
@@ -66,6 +73,13 @@ deviceOf (operationv.Reset phy x557) = 0
 deviceOf (operationv.Abilities phy) = 0
 deviceOf (operationv.Advertise asked) = 0
 deviceOf (operationv.AnLink phy) = 0
+deviceOf (operationv.KrRead address) = 0
+deviceOf (operationv.KrWrite address value) = 0
+deviceOf (operationv.KrModify c) = 0
+deviceOf operationv.RestartAn = 0
+deviceOf (operationv.KrAutoneg kr kx) = 0
+deviceOf (operationv.NvmWord word) = 0
+deviceOf operationv.AfterReset = 0
 
 -- the operation of the reference that it is, with the words of its host block
 abbrev pub opOf : Operation → List ℕ → ops.Op
@@ -86,6 +100,13 @@ opOf (operationv.Reset phy x557) ws = ops.Reset phy x557
 opOf (operationv.Abilities phy) ws = ops.Abilities phy
 opOf (operationv.Advertise asked) ws = ops.Advertise (asked .phy) (asked .speeds) (maybeOf (asked .nbase)) (asked .veto)
 opOf (operationv.AnLink phy) ws = ops.AnLink phy
+opOf (operationv.KrRead address) ws = ops.KrRead address
+opOf (operationv.KrWrite address value) ws = ops.KrWrite address value
+opOf (operationv.KrModify c) ws = ops.KrModify (c .port0) (c .keep) (c .set)
+opOf operationv.RestartAn ws = ops.RestartAn
+opOf (operationv.KrAutoneg kr kx) ws = ops.KrAutoneg kr kx
+opOf (operationv.NvmWord word) ws = ops.NvmWord word
+opOf operationv.AfterReset ws = ops.AfterReset
 
 -- what a running operation says, from the reply that it waits for, with the host block as it is now
 abbrev pub resumeOp : Port → Op → Reply → List ℕ → Talk Out

@@ -7,6 +7,7 @@ use answers::Answer;
 use hardware::Action;
 use hardware::Port;
 use hardware::Reply;
+use kr::modify::Change;
 use operations::After;
 use operations::AfterStep;
 use phy::advertise::Advertised;
@@ -45,6 +46,17 @@ pub enum Operation {
     Advertise(Advertised),
     // phy
     AnLink(u32),
+    // address
+    KrRead(u32),
+    // address, value
+    KrWrite(u32, u32),
+    KrModify(Change),
+    RestartAn,
+    // kr, kx
+    KrAutoneg(bool, bool),
+    // word
+    NvmWord(u16),
+    AfterReset,
 }
 
 // A running operation, at the action that its access asks for.
@@ -82,6 +94,13 @@ impl Operation {
             Operation::Abilities(phy) => phy,
             Operation::Advertise(asked) => asked.phy,
             Operation::AnLink(phy) => phy,
+            Operation::KrRead(_) => 0,
+            Operation::KrWrite(_, _) => 0,
+            Operation::KrModify(_) => 0,
+            Operation::RestartAn => 0,
+            Operation::KrAutoneg(_, _) => 0,
+            Operation::NvmWord(_) => 0,
+            Operation::AfterReset => 0,
         }
     }
 
@@ -106,6 +125,13 @@ impl Operation {
             Operation::Abilities(_) => 0,
             Operation::Advertise(_) => 0,
             Operation::AnLink(_) => 0,
+            Operation::KrRead(_) => 0,
+            Operation::KrWrite(_, _) => 0,
+            Operation::KrModify(_) => 0,
+            Operation::RestartAn => 0,
+            Operation::KrAutoneg(_, _) => 0,
+            Operation::NvmWord(_) => 0,
+            Operation::AfterReset => 0,
         }
     }
 }

@@ -8,7 +8,12 @@ use activity::Activity;
 use activity::Asked;
 use hardware::Port;
 use hostif::token::Token;
+use kr::modify::Change;
+use kr::modify::KrModify;
+use kr::sequence::KrPlace;
+use kr::sequence::Sequence;
 use operations::After;
+use operations::kr_registers::Kr;
 use operations::registers::Mdio;
 use phy::advertise::Advertise;
 use phy::advertise::Advertised;
@@ -142,6 +147,51 @@ fn an_link(port: Port, phy: u32, block: &mut [u32; 16]) -> Place
     Op::decided(port, block, Mdio::an_link(port, phy, step))
 }
 
+fn kr_read(port: Port, address: u32, block: &mut [u32; 16]) -> Place
+    ensures { λ r. ⌜ told port r (now (block .exit)) ≡ ops.operation port (ops.KrRead address) ⌝ }
+{
+    Op::begun(port, block, Job::KrRead(address), After::Word)
+}
+
+fn kr_write(port: Port, address: u32, value: u32, block: &mut [u32; 16]) -> Place
+    ensures { λ r. ⌜ told port r (now (block .exit)) ≡ ops.operation port (ops.KrWrite address value) ⌝ }
+{
+    Op::begun(port, block, Job::KrWrite(address, value), After::Nothing)
+}
+
+fn kr_modify(port: Port, change: Change, block: &mut [u32; 16]) -> Place
+    ensures { λ r. ⌜ told port r (now (block .exit)) ≡ ops.operation port (opOf (operation.KrModify change) (now (block .entry))) ⌝ }
+{
+    let step = KrModify::start(change, port);
+    Op::decided(port, block, Kr::modify(port, change, step))
+}
+
+fn restart_an(port: Port, block: &mut [u32; 16]) -> Place
+    ensures { λ r. ⌜ told port r (now (block .exit)) ≡ ops.operation port ops.RestartAn ⌝ }
+{
+    let step = Sequence::start(KrPlace::Restart, port);
+    Op::decided(port, block, Kr::sequence(port, step))
+}
+
+fn kr_autoneg(port: Port, kr: bool, kx: bool, block: &mut [u32; 16]) -> Place
+    ensures { λ r. ⌜ told port r (now (block .exit)) ≡ ops.operation port (ops.KrAutoneg kr kx) ⌝ }
+{
+    let step = Sequence::start(KrPlace::Advertise(kr, kx), port);
+    Op::decided(port, block, Kr::sequence(port, step))
+}
+
+fn nvm_word(port: Port, word: u16, block: &mut [u32; 16]) -> Place
+    ensures { λ r. ⌜ told port r (now (block .exit)) ≡ ops.operation port (ops.NvmWord word) ⌝ }
+{
+    Op::begun(port, block, Job::NvmWord(word), After::Word)
+}
+
+fn after_reset(port: Port, block: &mut [u32; 16]) -> Place
+    ensures { λ r. ⌜ told port r (now (block .exit)) ≡ ops.operation port ops.AfterReset ⌝ }
+{
+    Op::decided(port, block, Mdio::after_reset(port))
+}
+
 // `words`: how many of the block are the host's.
 pub fn start(what: Operation, port: Port, block: &mut [u32; 16], words: usize) -> Place
     ensures { λ r. ⌜ told port r (now (block .exit)) ≡ ops.operation port (opOf what (take words (now (block .entry)))) ⌝ }
@@ -163,5 +213,12 @@ pub fn start(what: Operation, port: Port, block: &mut [u32; 16], words: usize) -
         Operation::Abilities(phy) => abilities(port, phy, block),
         Operation::Advertise(asked) => advertise(port, asked, block),
         Operation::AnLink(phy) => an_link(port, phy, block),
+        Operation::KrRead(address) => kr_read(port, address, block),
+        Operation::KrWrite(address, value) => kr_write(port, address, value, block),
+        Operation::KrModify(change) => kr_modify(port, change, block),
+        Operation::RestartAn => restart_an(port, block),
+        Operation::KrAutoneg(kr, kx) => kr_autoneg(port, kr, kx, block),
+        Operation::NvmWord(word) => nvm_word(port, word, block),
+        Operation::AfterReset => after_reset(port, block),
     }
 }

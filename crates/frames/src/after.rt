@@ -1,18 +1,17 @@
 // Tier 2: what an operation does between its accesses, and a running operation.
-use crate::kr::Change;
-use crate::kr::KrAutoneg;
-use crate::kr::KrModify;
-use crate::kr::RestartAn;
-use crate::locked::Access;
 use crate::watch::Poll;
 use crate::watch::Watch;
-use crate::x552::Clock;
 use crate::x553::Bringup;
+use access::access::Access;
 use activity::Activity;
 use activity::Asked;
+use kr::modify::Change;
+use kr::modify::KrModify;
+use kr::sequence::Sequence;
 use phy::advertise::Advertise;
 use phy::advertise::Advertised;
 use phy::an_link::AnLink;
+use phy::clock::Clock;
 use phy::modify::Modify;
 use phy::modify::Register;
 use phy::probe::Probe;
@@ -43,9 +42,8 @@ pub enum After {
     // phy
     AnLink(u8, AnLink),
     KrModify(Change, KrModify),
-    RestartAn(RestartAn),
-    // kr, kx
-    KrAutoneg(bool, bool, KrAutoneg),
+    // restart_an, kr_autoneg
+    Sequence(Sequence),
     // after_reset: fast
     Clock(bool, Clock),
     // veto

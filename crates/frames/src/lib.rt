@@ -3,10 +3,6 @@
 // A type may have 1000 fields by unfolding, and a child held in two variants counts twice.
 pub mod after;
 pub mod conversation;
-pub mod iosf;
-pub mod kr;
-pub mod locked;
-pub mod nvm;
 pub mod watch;
 pub mod x552;
 pub mod x553;

@@ -1,10 +1,9 @@
 // Tier 2, x552.rs: the Watch and its poll.
-use crate::kr::Ixfi;
-use crate::kr::KrAutoneg;
 use answers::Copper;
 use answers::Internal;
 use answers::MaybeStatus;
 use hardware::Error;
+use kr::sequence::Sequence;
 use phy::an_link::AnLink;
 
 // x552.rs's Watch.
@@ -20,8 +19,8 @@ pub enum Poll {
     First(AnLink),
     Status,
     Second(u32, AnLink),
-    Kr(u32, KrAutoneg),
-    Ixfi(u32, Ixfi),
+    // kr_autoneg, ixfi
+    Force(u32, Sequence),
 }
 
 // R<Copper> of Watch::poll, with what it leaves in the Watch.

@@ -1,21 +1,16 @@
 // Tier 2, x552.rs: the X557, before and after the MAC reset. The port and the veto are parameters.
-use crate::kr::Ixfi;
 use answers::CopperSetup;
 use answers::Speeds;
 use answers::X557;
 use hardware::Error;
+use kr::sequence::Sequence;
 use phy::advertise::Advertise;
 use phy::an_link::AnLink;
+use phy::clock::Clock;
 use phy::modify::Modify;
 use phy::probe::Probe;
 use phy::reset::Reset;
 use phy::scan::Scan;
-
-// slow_mdio, and set_mdio_speed of x553.rs.
-pub enum Clock {
-    Reading,
-    Writing,
-}
 
 // The PHY that prepare_copper found, and NW_MNG_IF_SEL.
 pub struct Phy {
@@ -47,7 +42,7 @@ pub enum PreparedCopper {
 // copper_link, the X557 beside it. The number is how many waits are left after this one.
 pub enum CopperLink {
     Abilities,
-    Ixfi(Speeds, Ixfi),
+    Ixfi(Speeds, Sequence),
     Waiting(Speeds, u32),
     Links(Speeds, u32),
     Linking(Speeds, u32, AnLink),

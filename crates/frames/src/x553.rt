@@ -1,8 +1,4 @@
 // Tier 2, x553.rs, and bringup of both families. The port and the veto are parameters.
-use crate::kr::KrAutoneg;
-use crate::kr::KrModify;
-use crate::kr::RestartAn;
-use crate::x552::Clock;
 use crate::x552::CopperLink;
 use crate::x552::PrepareCopper;
 use activity::Activity;
@@ -14,6 +10,9 @@ use answers::Setup553;
 use answers::SgmiiSetup;
 use answers::X557;
 use hardware::Error;
+use kr::modify::KrModify;
+use kr::sequence::Sequence;
+use phy::clock::Clock;
 
 // Which of prepare_firmware's activities after the first.
 pub enum FirmwarePlace {
@@ -46,7 +45,7 @@ pub enum Sgmii {
     Ctrl(KrModify),
     Force(u32, KrModify),
     Lane(u32, u32, KrModify),
-    Restart(u32, u32, u32, RestartAn),
+    Restart(u32, u32, u32, Sequence),
 }
 
 // R<Setup> of sgmii.
@@ -64,7 +63,7 @@ pub enum SgmiiAn {
     Again,
     Lane(KrModify),
     // FLX as written
-    Restart(u32, RestartAn),
+    Restart(u32, Sequence),
 }
 
 // setup, its arm for Prepared::Firmware.
@@ -99,7 +98,7 @@ pub enum Bringup {
     // either setup, MMNGC: 15ab, 15c2, 15c3, 15c6, 15c7
     Mmngc,
     // kr_autoneg: 15ab, 15c2, 15c3
-    Kr(KrAutoneg),
+    Kr(Sequence),
     // sgmii: 15c6, 15c7
     Sgmii(Sgmii),
     // copper_link: 15ad, 15c8

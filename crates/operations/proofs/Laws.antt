@@ -1,20 +1,29 @@
 -- The beginnings: an operation's first job, and what comes after it, are the Rust's function
 use Prim.Native.Nat.{ℕ}
-use mathlib.Core.Bool.{Bool}
+use mathlib.Core.Bool.{Bool, true, false}
 use mathlib.Core.List.{List, []}
+use mathlib.Core.Option.{none, some}
 use mathlib.Core.Path.{_≡_, refl, ap, sym, _∙_, fun-ext}
-use Rattle.hardware.specs.Talk.{Talk, Call, Res, ok, err, end, ask, andThen, orStop, return}
+use lib.Dec.{eqb}
+use Rattle.hardware.specs.Talk.{Talk, Call, Res, ok, err, end, ask, andThen, orStop, _>>_, pick, return}
 use Rattle.hardware.specs.Block as blk
+use Rattle.hardware.specs.declared.Family.{Family}
+use Rattle.hardware.specs.declared.Family.the-variants.{X552, X553}
 use Rattle.hardware.specs.declared.Port.{Port}
 use Rattle.hardware.proofs.Laws.{then-assoc}
 use Rattle.answers.specs.declared.Value.{Value}
 use Rattle.answers.specs.declared.Value.the-variants as value
 use Rattle.reference.specs.Hostif.{command, token, tokenAnswer, tokenBlock}
 use Rattle.reference.specs.Mdio.{readReg, abilities}
-use Rattle.reference.specs.Operations.{answer, nothing}
+use Rattle.reference.specs.Operations.{afterReset, answer, nothing}
+use Rattle.reference.specs.X552.{mdioClock, slowMdio}
+use Rattle.reference.specs.X552 as x552
+use Rattle.reference.specs.X553.{firmwarePhy, slowDevice}
+use Rattle.reference.specs.X553 as x553
 use Rattle.hostif.specs.Token.{tokenGot}
 use Rattle.hostif.proofs.Bytes.{status-cut}
 use Rattle.access.specs.Access.{noWord}
+use Rattle.phy.specs.Clock.{speedAt, clocked}
 use Rattle.operations.specs.After.{afterNothing, afterWord, afterAbilities, afterCommand}
 
 pub nothing-begun : (t : Call (Unit {0})) → andThen (noWord t) (λ p. afterNothing (p .0)) ≡ answer nothing t
@@ -44,3 +53,24 @@ token-begun port take =
 pub command-begun : (port : Port) (ws : List ℕ) (n : ℕ)
     → andThen (command port ws) (λ p. afterCommand n (p .0) (p .1)) ≡ blk._>>=_ (command port) (λ status. blk.return (value.Command status n)) ws
 command-begun port ws n = status-cut port ws (λ p. blk.orStop (λ status. blk.return (value.Command status n)) (p .0) (p .1))
+
+last : (t : Call (Unit {0})) → t >> return tt ≡ t
+last (end (ok _)) = refl
+last (end (err e)) = refl
+last (ask a k) = ap (ask a) (fun-ext (λ r. last (k r)))
+
+set-speed : (slow fast : Bool)
+    → pick slow (mdioClock false >> return tt) (pick fast (mdioClock true >> return tt) (return tt)) ≡ clocked (pick slow (some false) (pick fast (some true) none))
+set-speed true fast = last (mdioClock false)
+set-speed false true = last (mdioClock true)
+set-speed false false = refl
+
+slow-speed : (copper : Bool) → pick copper slowMdio (return tt) ≡ clocked (pick copper (some false) none)
+slow-speed true = refl
+slow-speed false = refl
+
+-- `after_reset` of either family
+pub reset-begun : (port : Port) (family : Family) → afterReset port family ≡ clocked (speedAt family (port .device))
+unfolding x552.afterReset x553.afterReset
+reset-begun port X552 = slow-speed (eqb (port .device) 0x15ad)
+reset-begun port X553 = set-speed (slowDevice (port .device)) (firmwarePhy (port .device))

@@ -16,6 +16,7 @@ use Rattle.hostif.specs.Command.{statusOf}
 use Rattle.hostif.specs.Token.{tokenGot}
 use Rattle.access.specs.Access.{jobTalk}
 use Rattle.activity.specs.Activity.{resumeActivity}
+use Rattle.operations.specs.Kr.{resumeKr}
 use Rattle.operations.specs.Mdio.{resumeMdio}
 use Rattle.operations.specs.declared.After.{After}
 use Rattle.operations.specs.declared.After.the-variants as after
@@ -54,6 +55,7 @@ resumeAfter port (after.Command n) got ws = afterCommand n got ws
 resumeAfter port (after.Token take) got ws = answer value.Flag (tokenGot take got)
 resumeAfter port (after.Activity asked s) got ws = answer value.Activity (resumeActivity port asked s got ws)
 resumeAfter port (after.Mdio s) got ws = resumeMdio port s got
+resumeAfter port (after.Kr s) got ws = resumeKr port s got
 
 abbrev pub toldAfter : Port → List ℕ → AfterStep → Talk Out
 toldAfter port b (afterstep.Ask job s) = andThen (jobTalk port job b) (λ p. resumeAfter port s (p .0) (p .1))

@@ -6,6 +6,7 @@ use Rattle.answers.specs.declared.Value.the-variants as value
 use Rattle.reference.specs.Operations.{Out, answer, nothing}
 use Rattle.phy.specs.Advertise.{resumeAdvertise}
 use Rattle.phy.specs.AnLink.{resumeAnLink}
+use Rattle.phy.specs.Clock.{resumeClock}
 use Rattle.phy.specs.Modify.{resumeModify}
 use Rattle.phy.specs.Probe.{resumeProbe}
 use Rattle.phy.specs.Reset.{resumeReset}
@@ -20,3 +21,4 @@ resumeMdio port (mdio.Scan s) got = answer value.Scan (resumeScan port s got)
 resumeMdio port (mdio.Reset phy x557 s) got = answer nothing (resumeReset port phy x557 s got)
 resumeMdio port (mdio.AnLink phy s) got = answer value.Flag (resumeAnLink port phy s got)
 resumeMdio port (mdio.Advertise asked s) got = answer value.Flag (resumeAdvertise port asked s got)
+resumeMdio port (mdio.Clock fast s) got = answer nothing (resumeClock fast s got)

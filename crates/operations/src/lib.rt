@@ -1,6 +1,8 @@
 // What an operation does between its accesses.
+pub mod kr_registers;
 pub mod registers;
 
+use crate::kr_registers::Kr;
 use crate::registers::Mdio;
 use access::access::Job;
 use activity::Activity;
@@ -28,9 +30,9 @@ ghost use Rattle.operations.specs.After.{afterAbilities, afterCommand, a
 
 // What is left of an operation once its access has ended.
 pub enum After {
-    // acquire, release, write_reg
+    // acquire, release, write_reg, kr_write
     Nothing,
-    // read_reg
+    // read_reg, kr_read, nvm_word
     Word,
     Veto,
     Link,
@@ -41,6 +43,7 @@ pub enum After {
     Token(bool),
     Activity(Asked, Activity),
     Mdio(Mdio),
+    Kr(Kr),
 }
 
 // Done: the answer, and how many words of the host block belong to it.
@@ -50,7 +53,7 @@ pub enum AfterStep {
 }
 
 impl After {
-    fn nothing(port: Port, got: Word) -> AfterStep
+    pub fn nothing(port: Port, got: Word) -> AfterStep
         ensures { λ r. ⌜ ((b : List ℕ) → toldAfter port b r ≡ afterNothing (wordOf got)) ⌝ }
     {
         match got {
@@ -59,7 +62,7 @@ impl After {
         }
     }
 
-    fn word(port: Port, got: Word) -> AfterStep
+    pub fn word(port: Port, got: Word) -> AfterStep
         ensures { λ r. ⌜ ((b : List ℕ) → toldAfter port b r ≡ afterWord (wordOf got)) ⌝ }
     {
         match got {
@@ -147,6 +150,7 @@ impl After {
                 After::activity(port, asked, step)
             }
             After::Mdio(s) => s.next(port, got),
+            After::Kr(s) => s.next(port, got),
         }
     }
 }

@@ -10,8 +10,11 @@ use hostif::token::Flag;
 use phy::advertise::Advertise;
 use phy::advertise::AdvertiseStep;
 use phy::advertise::Advertised;
+use phy::advertise::MaybeFlag;
 use phy::an_link::AnLink;
 use phy::an_link::AnLinkStep;
+use phy::clock::Clock;
+use phy::clock::ClockStep;
 use phy::modify::Modify;
 use phy::modify::ModifyStep;
 use phy::modify::Register;
@@ -27,12 +30,13 @@ ghost use Prim.Native.Nat.{ℕ};
 ghost use mathlib.Core.List.{List};
 ghost use mathlib.Core.Path.{_≡_};
 ghost use Rattle.hardware.specs.Talk.{end};
-ghost use Rattle.hardware.specs.Told.{wordOf};
+ghost use Rattle.hardware.specs.Told.{unitOf, wordOf};
 ghost use Rattle.answers.specs.declared.Value.the-variants as value;
-ghost use Rattle.reference.specs.Operations.{answer, nothing};
+ghost use Rattle.reference.specs.Operations.{afterReset, answer, nothing};
 ghost use Rattle.hostif.specs.Token.{flagOf};
 ghost use Rattle.phy.specs.Advertise.{toldAdvertise};
 ghost use Rattle.phy.specs.AnLink.{toldAnLink};
+ghost use Rattle.phy.specs.Clock.{toldClock};
 ghost use Rattle.phy.specs.Modify.{toldModify};
 ghost use Rattle.phy.specs.Probe.{toldProbe};
 ghost use Rattle.phy.specs.Reset.{toldReset};
@@ -50,6 +54,8 @@ pub enum Mdio {
     // phy
     AnLink(u32, AnLink),
     Advertise(Advertised, Advertise),
+    // after_reset: whether fast
+    Clock(bool, Clock),
 }
 
 impl Mdio {
@@ -58,10 +64,7 @@ impl Mdio {
     {
         match step {
             ModifyStep::Ask(job, s) => AfterStep::Ask(job, After::Mdio(Mdio::Modify(at, s))),
-            ModifyStep::Done(r) => match r {
-                Word::Err(e) => AfterStep::Done(Answer::Err(e), 0),
-                Word::Ok(v) => AfterStep::Done(Answer::Ok(Value::Word(v)), 0),
-            },
+            ModifyStep::Done(r) => After::word(port, r),
         }
     }
 
@@ -89,15 +92,21 @@ impl Mdio {
         }
     }
 
+    fn unit(port: Port, r: Unit) -> AfterStep
+        ensures { λ s. ⌜ ((b : List ℕ) → toldAfter port b s ≡ answer nothing (end (unitOf r))) ⌝ }
+    {
+        match r {
+            Unit::Err(e) => AfterStep::Done(Answer::Err(e), 0),
+            Unit::Ok => AfterStep::Done(Answer::Ok(Value::Nothing), 0),
+        }
+    }
+
     pub fn reset(port: Port, phy: u32, x557: bool, step: ResetStep) -> AfterStep
         ensures { λ r. ⌜ ((b : List ℕ) → toldAfter port b r ≡ answer nothing (toldReset port phy x557 b step)) ⌝ }
     {
         match step {
             ResetStep::Ask(job, s) => AfterStep::Ask(job, After::Mdio(Mdio::Reset(phy, x557, s))),
-            ResetStep::Done(r) => match r {
-                Unit::Err(e) => AfterStep::Done(Answer::Err(e), 0),
-                Unit::Ok => AfterStep::Done(Answer::Ok(Value::Nothing), 0),
-            },
+            ResetStep::Done(r) => Mdio::unit(port, r),
         }
     }
 
@@ -131,6 +140,25 @@ impl Mdio {
         }
     }
 
+    fn clock(port: Port, fast: bool, step: ClockStep) -> AfterStep
+        ensures { λ r. ⌜ ((b : List ℕ) → toldAfter port b r ≡ answer nothing (toldClock port fast b step)) ⌝ }
+    {
+        match step {
+            ClockStep::Ask(job, s) => AfterStep::Ask(job, After::Mdio(Mdio::Clock(fast, s))),
+            ClockStep::Done(r) => Mdio::unit(port, r),
+        }
+    }
+
+    // Where the clock is not set, it ends at once.
+    pub fn after_reset(port: Port) -> AfterStep
+        ensures { λ r. ⌜ ((b : List ℕ) → toldAfter port b r ≡ answer nothing (afterReset port (port .family))) ⌝ }
+    {
+        match Clock::of(port) {
+            MaybeFlag::Nothing => AfterStep::Done(Answer::Ok(Value::Nothing), 0),
+            MaybeFlag::Is(fast) => Mdio::clock(port, fast, Clock::start(fast, port)),
+        }
+    }
+
     pub fn next(self, port: Port, got: Word) -> AfterStep
         ensures { λ r. ⌜ ((b : List ℕ) → toldAfter port b r ≡ resumeMdio port self (wordOf got)) ⌝ }
     {
@@ -141,6 +169,7 @@ impl Mdio {
             Mdio::Reset(phy, x557, s) => Mdio::reset(port, phy, x557, s.next(phy, x557, port, got)),
             Mdio::AnLink(phy, s) => Mdio::an_link(port, phy, s.next(phy, port, got)),
             Mdio::Advertise(asked, s) => Mdio::advertise(port, asked, s.next(asked, port, got)),
+            Mdio::Clock(fast, s) => Mdio::clock(port, fast, s.next(fast, port, got)),
         }
     }
 }

@@ -1,5 +1,6 @@
 pub mod Advertise
 pub mod AnLink
+pub mod Clock
 pub mod Modify
 pub mod Probe
 pub mod Reset

@@ -2,6 +2,7 @@
 pub mod abilities;
 pub mod advertise;
 pub mod an_link;
+pub mod clock;
 pub mod modify;
 pub mod probe;
 pub mod reset;

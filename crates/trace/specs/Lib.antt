@@ -5,5 +5,6 @@ pub mod Operation
 pub mod Reply
 pub mod Listing
 pub mod Turn
+pub mod Kr
 pub mod Lines
 pub mod Arguments

@@ -10,8 +10,8 @@ use Rattle.phy.specs.declared.modify.Register.{Register}
 use Rattle.conversation.specs.declared.operation.Operation.{Operation}
 use Rattle.conversation.specs.declared.operation.Operation.the-variants.{ReadReg, WriteReg, Modify, Probe, Scan, Reset, Abilities, Advertise, AnLink}
 use Rattle.trace.specs.Kinds.{noMore, withWord, withHalf, withTruth, withMaybe}
+use Rattle.trace.specs.Kr.{krName}
 use Rattle.trace.specs.declared.kinds.OperationLine.{OperationLine}
-use Rattle.trace.specs.declared.kinds.OperationLine.the-variants.{Bad}
 
 abbrev pub withReadReg : List ℕ → OperationLine
 withReadReg = withWord λ phy. withWord λ dev. withHalf λ reg. noMore (ReadReg phy dev reg)
@@ -43,14 +43,14 @@ withAdvertise =
     withWord λ phy. withTruth λ g10. withTruth λ g1. withTruth λ m100. withMaybe λ nbase. withTruth λ veto.
     noMore (Advertise (advertised phy g10 g1 m100 nbase veto))
 
--- `reset`, `abilities`, `advertise`, `an_link`
+-- `reset`, `abilities`, `advertise`, `an_link`, or one of x552.rs or x553.rs
 unfoldable pub phyName : List ℕ → List ℕ → OperationLine
 phyName w vs =
     pick (same w (114 ∷ 101 ∷ 115 ∷ 101 ∷ 116 ∷ [])) (withReset vs)
     (pick (same w (97 ∷ 98 ∷ 105 ∷ 108 ∷ 105 ∷ 116 ∷ 105 ∷ 101 ∷ 115 ∷ [])) (withPhy Abilities vs)
     (pick (same w (97 ∷ 100 ∷ 118 ∷ 101 ∷ 114 ∷ 116 ∷ 105 ∷ 115 ∷ 101 ∷ [])) (withAdvertise vs)
     (pick (same w (97 ∷ 110 ∷ 95 ∷ 108 ∷ 105 ∷ 110 ∷ 107 ∷ [])) (withPhy AnLink vs)
-    Bad)))
+    (krName w vs))))
 
 -- `read_reg`, `write_reg`, `modify`, `probe`, `scan`, or one of the above
 unfoldable pub mdioName : List ℕ → List ℕ → OperationLine

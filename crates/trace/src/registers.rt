@@ -2,6 +2,7 @@
 use crate::kinds::OperationLine;
 use crate::kinds::is_name;
 use crate::kinds::no_more;
+use crate::kr_registers::kr_named;
 use answers::Speeds;
 use conversation::operation::Operation;
 use phy::advertise::Advertised;
@@ -203,7 +204,7 @@ fn phy_named(name: &[u8], args: &[u32]) -> OperationLine
     if is_name(name, b"an_link") {
         return an_link(args);
     }
-    OperationLine::Bad
+    kr_named(name, args)
 }
 
 pub fn mdio_named(name: &[u8], args: &[u32]) -> OperationLine

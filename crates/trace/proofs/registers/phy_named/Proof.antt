@@ -24,4 +24,5 @@ phy-named-spec =
     (λ c κs. search needs)
     (λ c κs. search needs)
     (λ c. simp (c .before .before .before .before .before .before .before .before .before .before .before .is-name .ensures, c .before .before .before .before .before .before .before .before .before .before .if1 .left, c .before .before .before .before .before .before .before .before .is-name2 .ensures, c .before .before .before .before .before .before .before .if2 .left, c .before .before .before .before .before .is-name3 .ensures, c .before .before .before .before .if3 .left, c .before .before .is-name4 .ensures, c .before .if4 .taken, c .an-link .ensures))
-    (λ c. simp (c .before .before .before .before .before .before .before .before .before .before .is-name .ensures, c .before .before .before .before .before .before .before .before .before .if1 .left, c .before .before .before .before .before .before .before .is-name2 .ensures, c .before .before .before .before .before .before .if2 .left, c .before .before .before .before .is-name3 .ensures, c .before .before .before .if3 .left, c .before .is-name4 .ensures, c .if4 .left)))
+    (λ c κs. search needs)
+    (λ c. simp (c .before .before .before .before .before .before .before .before .before .before .before .is-name .ensures, c .before .before .before .before .before .before .before .before .before .before .if1 .left, c .before .before .before .before .before .before .before .before .is-name2 .ensures, c .before .before .before .before .before .before .before .if2 .left, c .before .before .before .before .before .is-name3 .ensures, c .before .before .before .before .if3 .left, c .before .before .is-name4 .ensures, c .before .if4 .left, c .kr-named .ensures)))

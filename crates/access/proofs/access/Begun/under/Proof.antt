@@ -8,5 +8,4 @@ under-spec =
     (tie.spec
     (λ c κs. search needs)
     (λ c κs. search needs)
-    (λ c κs. search needs)
-    (λ c. simp (c .before .before .before .of .ensures, c .before .before .mask .ensures, c .first .ensures)))
+    (λ c. simp (c .before .before .of .ensures, c .first .ensures)))

@@ -13,5 +13,5 @@ acquired-spec =
     (λ c κs. search needs)
     (λ c. search needs)
     (λ c. simp (c .before .step .given .1))
-    (λ c. simp (c .before .before .before .before .before .before .step2 .given .1, c .before .before .before .enum-told .given .1, c .before .start .ensures, c .after-body .ensures))
+    (λ c. simp (c .before .before .before .before .before .before .before .step2 .given .1, c .before .before .before .before .enum-told .given .1, c .before .before .start .ensures, c .after-body .ensures))
     (λ c. simp (c .before .before .before .before .step2 .given .1, c .before .r .given .1)))

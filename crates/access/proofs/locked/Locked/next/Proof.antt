@@ -13,4 +13,4 @@ next-spec =
     (λ c κs. search needs)
     (λ c κs. search needs)
     (λ c. simp (c .before .before .before .before .before .self .given .1, c .before .before .next .ensures, c .held .ensures))
-    (λ c. simp (c .before .before .before .before .self2 .given .1, c .before .before .next2 .ensures, c .after-body .ensures)))
+    (λ c. simp (c .before .before .before .before .before .self2 .given .1, c .before .before .next2 .ensures, c .after-body .ensures)))

@@ -9,8 +9,6 @@ modify-spec =
     (tie.spec
     (λ c. search needs)
     (λ c. search needs)
-    (λ c. search needs)
-    (λ c. search needs)
+    (λ c κs. search needs)
     (λ c. λ b. simp (c .before .step .given .1, then-assoc))
-    (λ c. λ b. simp (c .before .before .before .before .step2 .given .1, c .before .r .given .1))
-    (λ c. λ b. simp (c .before .before .before .before .step2 .given .1, c .before .r2 .given .1)))
+    (λ c. λ b. simp (c .before .before .step2 .given .1, c .word .ensures, then-assoc)))

@@ -2,7 +2,7 @@ use borrow.Author.Needs.{needs}
 use mir.Facts.{fits-or, fits-and-r}
 use Rattle.hardware.specs.Talk.{return}
 use Rattle.reference.specs.Mdio.{writeReg, changed}
-use Rattle.phy.proofs.Laws.{wrote}
+use Rattle.access.proofs.Laws.{wrote}
 use Rattle.phy.proofs.modify.Modify.next.Statement.{statement}
 use Rattle.phy.proofs.modify.Modify.next.Tie as tie
 

@@ -1,5 +1,5 @@
 use Rattle.reference.specs.Mdio.{reset, resetTimes, writeReg}
-use Rattle.phy.proofs.Laws.{wrote}
+use Rattle.access.proofs.Laws.{wrote}
 use Rattle.phy.proofs.reset.Reset.start.Statement.{statement}
 use Rattle.phy.proofs.reset.Reset.start.Tie as tie
 

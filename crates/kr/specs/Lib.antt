@@ -1,0 +1,2 @@
+pub mod Modify
+pub mod Sequence
