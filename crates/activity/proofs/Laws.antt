@@ -4,7 +4,7 @@ use mathlib.Core.List.{List, [], _∷_}
 use mathlib.Core.Path.{_≡_, refl}
 use lib.ListN.{length, getD, take, length-take, List·getD-eq-default}
 use native.Mathlib.Nat.{not-suc-le-zero, le-of-suc-le-suc, le-trans, min-le-left}
-use Rattle.hardware.specs.Talk.{andThen}
+use Rattle.hardware.specs.Talk.{andThen, times}
 use Rattle.hardware.specs.declared.Port.{Port}
 use Rattle.reference.specs.Hostif.{command, activityTimes, activityAnswer}
 use Rattle.hostif.proofs.Bytes.{status-cut}
@@ -26,3 +26,8 @@ word-of (suc n) (suc i) (x ∷ xs) h = word-of n i xs (le-of-suc-le-suc h)
 -- beyond them
 pub beyond : (n i : ℕ) (xs : List ℕ) → n ≤ i → getD (take n xs) i 0 ≡ 0
 beyond n i xs h = List·getD-eq-default (take n xs) 0 (rw (length-take n xs) (le-trans (min-le-left n (length xs)) h))
+
+-- the first of 50 tries
+pub fifty : {S X : Type 0} (turn : (S → X) → S → X) (after : S → X) (s : S) → times 50 turn after s ≡ turn (times 49 turn after) s
+unfolding times
+fifty turn after s = refl

@@ -7,6 +7,7 @@ use Rattle.answers.specs.declared.Words.{Words}
 use Rattle.reference.specs.Hostif.{activityBlock, activityTimes, activityAnswer, phyActivity}
 use Rattle.hostif.specs.Command.{statusOf}
 use Rattle.access.specs.Access.{jobTalk}
+use Rattle.access.specs.declared.access.Job.the-variants as job
 use Rattle.activity.specs.declared.Activity.{Activity}
 use Rattle.activity.specs.declared.Activity.the-variants as activity
 use Rattle.activity.specs.declared.ActivityStep.{ActivityStep}
@@ -34,6 +35,10 @@ activityGot port asked n got ws = activityAnswer (activityTimes port (blockOf po
 abbrev pub resumeActivity : Port → Asked → Activity → Res ℕ → List ℕ → Call Words
 resumeActivity port asked (activity.Exchanging n) got ws = activityGot port asked n got ws
 resumeActivity port asked (activity.Pausing n status) got ws = end got >>= λ _. activityTimes port (blockOf port asked) n status
+
+-- at its first job
+abbrev pub begunActivity : Port → Asked → List ℕ → Activity → Call Words
+begunActivity port asked b s = andThen (jobTalk port (job.Command 6) b) (λ p. resumeActivity port asked s (p .0) (p .1))
 
 abbrev pub toldActivity : Port → Asked → List ℕ → ActivityStep → Call Words
 toldActivity port asked b (activitystep.Ask job s) = andThen (jobTalk port job b) (λ p. resumeActivity port asked s (p .0) (p .1))

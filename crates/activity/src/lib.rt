@@ -10,7 +10,7 @@ ghost use mathlib.Core.Path.{_≡_};
 ghost use lib.ListN.{getD, length, take};
 ghost use Rattle.hardware.specs.Told.{wordOf};
 ghost use Rattle.reference.specs.Hostif.{activityTimes, activityWords};
-ghost use Rattle.activity.specs.Activity.{blockOf, activityOf, activityGot, resumeActivity, toldActivity};
+ghost use Rattle.activity.specs.Activity.{blockOf, activityOf, activityGot, begunActivity, resumeActivity, toldActivity};
 
 // phy_activity's arguments.
 pub struct Asked {
@@ -117,6 +117,14 @@ impl Activity {
                 }
             }
         }
+    }
+
+    // Its six words are put, and it stands at its first job, the command of six words.
+    pub fn first(asked: Asked, port: Port, block: &mut [u32; 16]) -> Activity
+        ensures { λ r. ⌜ begunActivity port asked (now (block .exit)) r ≡ activityOf port asked ⌝ }
+    {
+        Activity::put(asked, port, block);
+        Activity::Exchanging(49)
     }
 
     pub fn start(asked: Asked, port: Port, block: &mut [u32; 16]) -> ActivityStep

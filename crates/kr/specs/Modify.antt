@@ -6,7 +6,7 @@ use Rattle.hardware.specs.Told.{wordOf}
 use Rattle.hardware.specs.declared.Port.{Port}
 use Rattle.words.specs.Kr.{krm}
 use Rattle.reference.specs.Mdio.{changed}
-use Rattle.reference.specs.X552.{krModify, krModified}
+use Rattle.reference.specs.X552.{but, krModify, krModified}
 use Rattle.access.specs.Access.{jobTalk}
 use Rattle.access.specs.declared.access.Job.{Job}
 use Rattle.kr.specs.declared.modify.Change.{Change}
@@ -14,6 +14,10 @@ use Rattle.kr.specs.declared.modify.KrModify.{KrModify}
 use Rattle.kr.specs.declared.modify.KrModify.the-variants as modify
 use Rattle.kr.specs.declared.modify.KrModifyStep.{KrModifyStep}
 use Rattle.kr.specs.declared.modify.KrModifyStep.the-variants as modifystep
+
+-- the bits to clear, and those to set
+abbrev pub change : ℕ → ℕ → ℕ → Change
+change port0 clear set = record { port0 = port0; keep = but clear; set = set }
 
 -- the Rust's function, of these arguments
 abbrev pub modifyOf : Port → Change → Call ℕ

@@ -7,7 +7,7 @@ ghost use Prim.Native.Nat.{ℕ};
 ghost use mathlib.Core.List.{List};
 ghost use mathlib.Core.Path.{_≡_};
 ghost use Rattle.hardware.specs.Told.{wordOf};
-ghost use Rattle.kr.specs.Modify.{modifyOf, begunModify, resumeModify, toldModify};
+ghost use Rattle.kr.specs.Modify.{change, modifyOf, begunModify, resumeModify, toldModify};
 
 // kr_modify's arguments. The bits to keep and to set stand for the Rust's closure.
 pub struct Change {
@@ -34,6 +34,27 @@ impl Change {
 
     // PMD_FLX_MASK_ST20, X553 only
     pub const FLX: u32 = 0x5054;
+
+    pub const SGMII_CTRL: u32 = 0x42a0;
+
+    pub const RX_TRN_LINKUP_CTRL: u32 = 0x4b00;
+
+    pub const DSP_TXFFE_STATE_4: u32 = 0x4634;
+
+    pub const DSP_TXFFE_STATE_5: u32 = 0x4638;
+
+    pub const TX_COEFF_CTRL_1: u32 = 0x5520;
+
+    // The bits to clear, and those to set.
+    pub fn of(port0: u32, clear: u32, set: u32) -> Change
+        ensures { λ r. ⌜ change port0 clear set ≡ r ⌝ }
+    {
+        Change {
+            port0,
+            keep: !clear,
+            set,
+        }
+    }
 }
 
 impl KrModify {

@@ -1,4 +1,5 @@
-// x552.rs's `restart_an` and `kr_autoneg`: calls of `kr_modify` one after the other. The answer is the first value written.
+// x552.rs's `restart_an`, `kr_autoneg` and `ixfi`: calls of `kr_modify` one after the other. The answer is the first value
+// written.
 use crate::modify::Change;
 use crate::modify::KrModify;
 use crate::modify::KrModifyStep;
@@ -12,7 +13,7 @@ ghost use mathlib.Core.List.{List};
 ghost use mathlib.Core.Path.{_≡_};
 ghost use Rattle.hardware.specs.Talk.{pick};
 ghost use Rattle.hardware.specs.Told.{wordOf};
-ghost use Rattle.reference.specs.X552.{krAutonegSet};
+ghost use Rattle.reference.specs.X552.{krAutonegSet, ixfiSet};
 ghost use Rattle.kr.specs.Modify.{toldModify};
 ghost use Rattle.kr.specs.Sequence.{
   firstOf,
@@ -31,6 +32,13 @@ pub enum KrPlace {
     Advertise(bool, bool),
     // kr_autoneg's of PMD_FLX_MASK_ST20, on the X553
     Lane,
+    // ixfi's of LINK_CTRL_1: whether to 10G
+    Force(bool),
+    // ixfi's of the other registers
+    Train,
+    Ffe4,
+    Ffe5,
+    Coeff,
     // restart_an's of LINK_CTRL_1
     Restart,
     // restart_an's of PMD_FLX_MASK_ST20, on the X553
@@ -62,30 +70,31 @@ impl KrPlace {
         0x2000_0000 | bit(0x4_0000, kr) | bit(0x1_0000, kx)
     }
 
+    fn forced(ten: bool) -> u32
+        ensures { λ r. ⌜ ixfiSet ten ≡ r ⌝ }
+    {
+        if ten { 0x400 } else { 0x200 }
+    }
+
     fn change(self) -> Change
         ensures { λ r. ⌜ changeOf self ≡ r ⌝ }
     {
         match self {
-            KrPlace::Advertise(kr, kx) => Change {
-                port0: Change::LINK_CTRL_1,
-                keep: !0x5_c000,
-                set: KrPlace::advertised(kr, kx),
-            },
-            KrPlace::Lane => Change {
-                port0: Change::FLX,
-                keep: !0x7600_0000,
-                set: 0x4800_0000,
-            },
-            KrPlace::Restart => Change {
-                port0: Change::LINK_CTRL_1,
-                keep: !0,
-                set: 0x8000_0000,
-            },
-            KrPlace::RestartLane => Change {
-                port0: Change::FLX,
-                keep: !0,
-                set: 0x8000_0000,
-            },
+            KrPlace::Advertise(kr, kx) => {
+                let set = KrPlace::advertised(kr, kx);
+                Change::of(Change::LINK_CTRL_1, 0x5_c000, set)
+            }
+            KrPlace::Lane => Change::of(Change::FLX, 0x7600_0000, 0x4800_0000),
+            KrPlace::Force(ten) => {
+                let set = KrPlace::forced(ten);
+                Change::of(Change::LINK_CTRL_1, 0x2000_c700, set)
+            }
+            KrPlace::Train => Change::of(Change::RX_TRN_LINKUP_CTRL, 0, 0x10),
+            KrPlace::Ffe4 => Change::of(Change::DSP_TXFFE_STATE_4, 0x1_8040, 0),
+            KrPlace::Ffe5 => Change::of(Change::DSP_TXFFE_STATE_5, 0x1_8040, 0),
+            KrPlace::Coeff => Change::of(Change::TX_COEFF_CTRL_1, 0, 0x8000_000e),
+            KrPlace::Restart => Change::of(Change::LINK_CTRL_1, 0, 0x8000_0000),
+            KrPlace::RestartLane => Change::of(Change::FLX, 0, 0x8000_0000),
         }
     }
 }
@@ -117,6 +126,11 @@ impl Sequence {
                 Family::X553 => Sequence::begin(port, KrPlace::Lane, MaybeWord::Is(first)),
             },
             KrPlace::Lane => Sequence::begin(port, KrPlace::Restart, MaybeWord::Is(first)),
+            KrPlace::Force(_) => Sequence::begin(port, KrPlace::Train, MaybeWord::Is(first)),
+            KrPlace::Train => Sequence::begin(port, KrPlace::Ffe4, MaybeWord::Is(first)),
+            KrPlace::Ffe4 => Sequence::begin(port, KrPlace::Ffe5, MaybeWord::Is(first)),
+            KrPlace::Ffe5 => Sequence::begin(port, KrPlace::Coeff, MaybeWord::Is(first)),
+            KrPlace::Coeff => Sequence::begin(port, KrPlace::Restart, MaybeWord::Is(first)),
             KrPlace::Restart => match family {
                 Family::X552 => SequenceStep::Done(Word::Ok(first)),
                 Family::X553 => Sequence::begin(port, KrPlace::RestartLane, MaybeWord::Is(first)),

@@ -36,6 +36,8 @@ impl Register {
     pub const PHY_XS: u32 = 4;
 
     pub const AN: u32 = 7;
+
+    pub const VENDOR: u32 = 0x1e;
 }
 
 impl Modify {

@@ -1,0 +1,4 @@
+pub mod Firmware
+pub mod Prepare
+pub mod Sgmii
+pub mod SgmiiAn
