@@ -115,9 +115,19 @@ def shown(piece):
     return text if piece.endswith(b'\n') else text + '\\-'
 
 
-def stored(operation, kind, text, listing):
-    """A case of the stored list: a `case` line, the input's lines behind `< `,
-    the listing's behind `> `, both as `shown`."""
-    lines = ['case %s %s' % (operation, kind.replace(' ', '_'))]
-    lines += ['< ' + shown(piece) for piece in pieces(text)] + ['> ' + shown(piece) for piece in pieces(listing)]
-    return '\n'.join(lines) + '\n'
+def port_of(text):
+    """Family and device id of an input; `other` where its first line has none."""
+    words = pieces(text)[0].decode('latin-1').split() if text else []
+    return (words[1], words[2].lower()) if len(words) == 4 and words[1] in ('X552', 'X553') else ('other', '')
+
+
+def can_be_stored(text):
+    """A stored input is not empty, and has no line at which another case would begin."""
+    return text != b'' and not any(piece.startswith(b'case ') for piece in pieces(text))
+
+
+def stored(operation, kind, text):
+    """A case of the stored list: a `case` line, then an input or its listing. A last line that lacks its
+    end gets it, which makes no other line of it."""
+    line = 'case %s %s\n' % (operation, kind.replace(' ', '_'))
+    return line.encode() + text + b'\n' * (not text.endswith(b'\n'))

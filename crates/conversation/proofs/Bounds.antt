@@ -40,6 +40,8 @@ fits-begun operationv.RestartAn ws h = operation-fits _ (omega arith)
 fits-begun (operationv.KrAutoneg kr kx) ws h = operation-fits _ (omega arith)
 fits-begun (operationv.NvmWord word) ws h = operation-fits _ (omega arith)
 fits-begun operationv.AfterReset ws h = operation-fits _ (omega arith)
+fits-begun (operationv.Bringup veto) ws h = operation-fits _ (omega arith)
+fits-begun (operationv.Poll w) ws h = operation-fits _ (omega arith)
 
 -- a bound of a talk that does not come near 2 ^ 64
 pub record Short (t : Talk Out) : Type 0 where

@@ -6,7 +6,7 @@ use mathlib.Core.List.{List, [], _∷_, _++_, append-nil}
 use native.Mathlib.Omega.{arith}
 use native.Mathlib.Numerals.{add-one, add-two}
 use native.Mathlib.Nat.{add-assoc, zero-add, add-zero, add-suc, suc-add}
-use borrow.Author.Tests.{lt-ltb, le-ltb}
+use borrow.Author.Tests.{eq-eqb, ne-eqb, lt-ltb, le-ltb}
 use lib.ListN.{length, take, drop, take-append-drop, getD, set, replicate, length-drop, drop-of-length-le}
 use lib.Seq.{sets, drop-cons, drop-drop, length-sets, paste, paste-suc, length-take-le, take-all, take-length, take-at, length-paste}
 use Rattle.hardware.specs.Refusal.{refusal}
@@ -16,8 +16,9 @@ use Rattle.reference.specs.Operations.{operation}
 use Rattle.hardware.specs.declared.Action.{Action}
 use Rattle.hardware.specs.declared.Action.the-variants.{Read, Write, Wait}
 use Rattle.hardware.specs.declared.Reply.{Reply}
-use Rattle.conversation.specs.Act.{uses, words, replyFor}
-use Rattle.conversation.specs.Conversation.{Conv, Out, told, convOf, gone, padded, phyOf, deviceOf, opOf, opening, begun}
+use Rattle.hardware.specs.declared.Reply.the-variants as reply
+use Rattle.conversation.specs.Act.{uses, words, replyOf, replyFor}
+use Rattle.conversation.specs.Conversation.{Conv, Out, told, convOf, gone, stepTalk, padded, phyOf, deviceOf, opOf, opening, begun}
 use Rattle.conversation.specs.Run.{
   Run,
   Tape,
@@ -73,6 +74,17 @@ not-refused port what ws block {t} p d r b e =
 -- what a conversation says where it stands at a place that is known
 pub at-place : (c : code.Conversation) {p : Place} → c .place ≡ p → convOf c .talk ≡ told (c .port) p (c .block)
 at-place c e = ap (λ (p : Place). told (c .port) p (c .block)) e
+
+-- a step of a conversation that asks for an action
+module _ (c : Conv) (kind value : ℕ) {a : Action} {k : Reply → Talk Out} (e : c .talk ≡ ask a k) where
+  pub step-waited : {to : Conv} → uses a ≡ 0 → to ≡ gone c a (k (reply.Done 0)) → record { stop = Done; to = to } ≡ stepTalk c kind value
+  step-waited h eto = rw (e, eto) (simp (eq-eqb _ _ h))
+
+  pub step-refused : (uses a ≡ 0 → ⊥) → 1 < kind → record { stop = BadReply; to = c } ≡ stepTalk c kind value
+  step-refused h l = rw e (simp (ne-eqb _ _ h, lt-ltb _ _ l))
+
+  pub step-done : {r : Reply} {to : Conv} → (uses a ≡ 0 → ⊥) → kind ≤ 1 → replyOf kind value ≡ r → to ≡ gone c a (k r) → record { stop = Done; to = to } ≡ stepTalk c kind value
+  step-done h l er eto = rw (e, eto, ← er) (simp (ne-eqb _ _ h, le-ltb _ _ l))
 
 pub uses-two : (a : Action) → (uses a ≡ 0 → ⊥) → uses a ≡ 2
 uses-two (Read reg) h = refl

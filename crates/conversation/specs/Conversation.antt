@@ -11,10 +11,15 @@ use Rattle.hardware.specs.declared.Reply.{Reply}
 use Rattle.hardware.specs.declared.Reply.the-variants as reply
 use Rattle.hardware.specs.declared.Port.{Port}
 use Rattle.hardware.specs.declared.Error.the-variants.{Block}
+use Rattle.answers.specs.declared.Value.{Value}
+use Rattle.answers.specs.declared.Value.the-variants as valuev
 use Rattle.reference.specs.Operations as ops
 use Rattle.access.specs.Access.{resumeAccess}
 use Rattle.phy.specs.Advertise.{maybeOf}
-use Rattle.operations.specs.After.{answerOf, resumeAfter}
+use Rattle.watch.specs.declared.store.Left.{Left}
+use Rattle.watch.specs.declared.store.Watch.{Watch}
+use Rattle.bringup.specs.Answer.{answerOf}
+use Rattle.operations.specs.After.{resumeAfter}
 use Rattle.conversation.specs.Act.{uses, replyOf}
 use Rattle.conversation.specs.declared.operation.Operation.{Operation}
 use Rattle.conversation.specs.declared.operation.Operation.the-variants as operationv
@@ -55,6 +60,8 @@ phyOf operationv.RestartAn = 0
 phyOf (operationv.KrAutoneg kr kx) = 0
 phyOf (operationv.NvmWord word) = 0
 phyOf operationv.AfterReset = 0
+phyOf (operationv.Bringup veto) = 0
+phyOf (operationv.Poll w) = w .phy
 
 unfoldable pub deviceOf : Operation → ℕ
 deviceOf operationv.Veto = 0
@@ -80,6 +87,8 @@ deviceOf operationv.RestartAn = 0
 deviceOf (operationv.KrAutoneg kr kx) = 0
 deviceOf (operationv.NvmWord word) = 0
 deviceOf operationv.AfterReset = 0
+deviceOf (operationv.Bringup veto) = 0
+deviceOf (operationv.Poll w) = 0
 
 -- the operation of the reference that it is, with the words of its host block
 abbrev pub opOf : Operation → List ℕ → ops.Op
@@ -107,6 +116,8 @@ opOf operationv.RestartAn ws = ops.RestartAn
 opOf (operationv.KrAutoneg kr kx) ws = ops.KrAutoneg kr kx
 opOf (operationv.NvmWord word) ws = ops.NvmWord word
 opOf operationv.AfterReset ws = ops.AfterReset
+opOf (operationv.Bringup veto) ws = ops.Bringup veto
+opOf (operationv.Poll w) ws = ops.Poll (w .phy) (w .internal) (w .forced) (w .reforced)
 
 -- what a running operation says, from the reply that it waits for, with the host block as it is now
 abbrev pub resumeOp : Port → Op → Reply → List ℕ → Talk Out
@@ -184,3 +195,27 @@ given ws block = pick (eqb (length block) (length ws)) (ok tt, ws) (err Block, b
 abbrev pub handedBack : Talk Out → List ℕ → Res (Unit {0}) × List ℕ
 handedBack (end r) block = given (r .1) block
 handedBack (ask a k) block = (err Block, block)
+
+-- what a poll that ended well leaves in its Watch
+abbrev pub leftBy : Value → Left → Left
+leftBy valuev.Nothing own = own
+leftBy (valuev.Flag f) own = own
+leftBy (valuev.Word v) own = own
+leftBy (valuev.Link l) own = own
+leftBy (valuev.Command status words) own = own
+leftBy (valuev.Activity ws) own = own
+leftBy (valuev.Probe id) own = own
+leftBy (valuev.Scan s) own = own
+leftBy (valuev.Abilities s) own = own
+leftBy (valuev.X552 s) own = own
+leftBy (valuev.X553 s) own = own
+leftBy (valuev.Poll seen forced reforced) own = record { forced = forced; reforced = reforced }
+
+-- anything else leaves it as it was
+abbrev pub leftOf : Talk Out → Left → Left
+leftOf (end (ok v, ws)) own = leftBy v own
+leftOf (end (err e, ws)) own = own
+leftOf (ask a k) own = own
+
+abbrev pub ownOf : Watch → Left
+ownOf w = record { forced = w .forced; reforced = w .reforced }

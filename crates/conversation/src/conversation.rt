@@ -7,18 +7,21 @@ use crate::operation::Operation;
 use crate::operation::Place;
 use crate::start::start;
 use answers::Answer;
+use answers::Value;
 use hardware::Action;
 use hardware::Error;
 use hardware::Port;
 use hardware::Reply;
 use hardware::Unit;
+use watch::store::Left;
+use watch::store::Watch;
 ghost use mathlib.Core.Path.{_≡_};
 ghost use Prim.Native.Nat.{_≤_};
 ghost use mathlib.Core.List.{[]};
 ghost use lib.ListN.{length, take};
 ghost use Rattle.hardware.specs.Told.{unitOf};
 ghost use Rattle.hardware.specs.Talk.{end, err};
-ghost use Rattle.conversation.specs.Conversation.{resumeOp, convOf, gone, opening, padded, begun, number, steppedOf, stepTalk, given, handedBack};
+ghost use Rattle.conversation.specs.Conversation.{resumeOp, convOf, gone, opening, padded, begun, number, steppedOf, stepTalk, given, handedBack, leftBy, leftOf, ownOf};
 
 // The whole state of a conversation.
 pub struct Conversation {
@@ -95,6 +98,33 @@ fn give_first(own: &[u32], words: usize, block: &mut [u32]) -> Unit
         return give(own, block);
     }
     give(&own[..words], block)
+}
+
+// What a poll that ended well leaves in its Watch; any other answer leaves what was there.
+fn left_by(value: Value, own: Left) -> Left
+    ensures { λ r. ⌜ leftBy value own ≡ r ⌝ }
+{
+    match value {
+        Value::Nothing => own,
+        Value::Flag(_) => own,
+        Value::Word(_) => own,
+        Value::Link(_) => own,
+        Value::Command {
+            status: _,
+            words: _,
+        } => own,
+        Value::Activity(_) => own,
+        Value::Probe(_) => own,
+        Value::Scan(_) => own,
+        Value::Abilities(_) => own,
+        Value::X552(_) => own,
+        Value::X553(_) => own,
+        Value::Poll {
+            copper: _,
+            forced,
+            reforced,
+        } => Left { forced, reforced },
+    }
 }
 
 impl Conversation {
@@ -191,6 +221,25 @@ impl Conversation {
                 let own = self.block;
                 give_first(&own, words, block)
             }
+        }
+    }
+
+    // What the Watch of a poll is to hold, for `Watch::store`: a poll that ended well changes it, and nothing else does.
+    pub fn left(self, watch: Watch) -> Left
+        ensures { λ r. ⌜ leftOf (convOf self .talk) (ownOf watch) ≡ r ⌝ }
+    {
+        let forced = watch.forced;
+        let own = Left {
+            forced,
+            reforced: watch.reforced,
+        };
+        let place = self.place;
+        match place {
+            Place::Asks(_, _) => own,
+            Place::Ended(answer, _) => match answer {
+                Answer::Err(_) => own,
+                Answer::Ok(value) => left_by(value, own),
+            },
         }
     }
 }

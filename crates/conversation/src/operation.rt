@@ -12,6 +12,7 @@ use operations::After;
 use operations::AfterStep;
 use phy::advertise::Advertised;
 use phy::modify::Register;
+use watch::store::Watch;
 ghost use mathlib.Core.Path.{_≡_};
 ghost use Rattle.hardware.specs.Talk.{andThen};
 ghost use Rattle.access.specs.Access.{toldAccess, jobTalk};
@@ -57,6 +58,9 @@ pub enum Operation {
     // word
     NvmWord(u16),
     AfterReset,
+    // veto
+    Bringup(bool),
+    Poll(Watch),
 }
 
 // A running operation, at the action that its access asks for.
@@ -101,6 +105,8 @@ impl Operation {
             Operation::KrAutoneg(_, _) => 0,
             Operation::NvmWord(_) => 0,
             Operation::AfterReset => 0,
+            Operation::Bringup(_) => 0,
+            Operation::Poll(watch) => watch.phy,
         }
     }
 
@@ -132,6 +138,8 @@ impl Operation {
             Operation::KrAutoneg(_, _) => 0,
             Operation::NvmWord(_) => 0,
             Operation::AfterReset => 0,
+            Operation::Bringup(_) => 0,
+            Operation::Poll(_) => 0,
         }
     }
 }

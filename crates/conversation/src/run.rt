@@ -9,6 +9,8 @@ use crate::conversation::Stop;
 use crate::operation::Place;
 use hardware::Action;
 use hardware::Reply;
+use script::Pair;
+use script::read_pair;
 ghost use mathlib.Core.Path.{_≡_};
 ghost use Prim.Native.Nat.{_+_, _≤_};
 ghost use lib.ListN.{length, drop};
@@ -42,9 +44,12 @@ fn reply_at(a: Action, replies: &[u32], used: usize) -> Reply
     ensures { λ r. ⌜ replyFor a (drop used (now (replies .entry))) ≡ r ⌝ }
 {
     if uses_of(a) == 0 {
-        Reply::Done(0)
-    } else {
-        reply_of(replies[used], replies[used + 1])
+        return Reply::Done(0);
+    }
+    match read_pair(replies, used) {
+        Pair::Is(kind, value) => reply_of(kind, value),
+        // excluded above
+        Pair::Nothing => Reply::Done(0),
     }
 }
 

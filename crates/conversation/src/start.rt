@@ -6,6 +6,7 @@ use access::access::Access;
 use access::access::Job;
 use activity::Activity;
 use activity::Asked;
+use bringup::Bringup;
 use hardware::Port;
 use hostif::token::Token;
 use kr::modify::Change;
@@ -23,6 +24,8 @@ use phy::modify::Register;
 use phy::probe::Probe;
 use phy::reset::Reset;
 use phy::scan::Scan;
+use watch::poll::Poll;
+use watch::store::Watch;
 ghost use mathlib.Core.Path.{_≡_};
 ghost use lib.ListN.{length, take};
 ghost use Rattle.reference.specs.Operations as ops;
@@ -192,6 +195,20 @@ fn after_reset(port: Port, block: &mut [u32; 16]) -> Place
     Op::decided(port, block, Mdio::after_reset(port))
 }
 
+fn bringup(port: Port, veto: bool, block: &mut [u32; 16]) -> Place
+    ensures { λ r. ⌜ told port r (now (block .exit)) ≡ ops.operation port (ops.Bringup veto) ⌝ }
+{
+    let step = Bringup::start(veto, port, block);
+    Op::decided(port, block, After::bringup(port, veto, step))
+}
+
+fn poll(port: Port, watch: Watch, block: &mut [u32; 16]) -> Place
+    ensures { λ r. ⌜ told port r (now (block .exit)) ≡ ops.operation port (opOf (operation.Poll watch) (now (block .entry))) ⌝ }
+{
+    let step = Poll::start(watch, port);
+    Op::decided(port, block, After::poll(port, watch, step))
+}
+
 // `words`: how many of the block are the host's.
 pub fn start(what: Operation, port: Port, block: &mut [u32; 16], words: usize) -> Place
     ensures { λ r. ⌜ told port r (now (block .exit)) ≡ ops.operation port (opOf what (take words (now (block .entry)))) ⌝ }
@@ -220,5 +237,7 @@ pub fn start(what: Operation, port: Port, block: &mut [u32; 16], words: usize) -
         Operation::KrAutoneg(kr, kx) => kr_autoneg(port, kr, kx, block),
         Operation::NvmWord(word) => nvm_word(port, word, block),
         Operation::AfterReset => after_reset(port, block),
+        Operation::Bringup(veto) => bringup(port, veto, block),
+        Operation::Poll(watch) => poll(port, watch, block),
     }
 }

@@ -232,6 +232,8 @@ judged operationv.RestartAn ws = (refl, omega arith)
 judged (operationv.KrAutoneg kr kx) ws = (refl, omega arith)
 judged (operationv.NvmWord word) ws = (refl, omega arith)
 judged operationv.AfterReset ws = (refl, omega arith)
+judged (operationv.Bringup veto) ws = (refl, omega arith)
+judged (operationv.Poll w) ws = (refl, omega arith)
 
 code-sound : (port : Port) (q : Asked) → takes port q ≡ true → Sound (port .family) endedWell (operation port (opOf (q .what) (q .block)))
 code-sound port q h =

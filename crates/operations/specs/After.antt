@@ -1,31 +1,28 @@
 -- What is left of an operation once its access has given a word, and the words of the host block that belong to it
 use Prim.Native.Nat.{ℕ}
-use mathlib.Core.List.{List}
+use mathlib.Core.List.{List, []}
 use lib.ListN.{take}
-use Rattle.hardware.specs.Talk.{Talk, Res, ok, err, end, andThen, orStop, return}
+use Rattle.hardware.specs.Talk.{Talk, Res, end, andThen, orStop, return}
+use Rattle.hardware.specs.Block.{keep}
 use Rattle.hardware.specs.Block as blk
 use Rattle.hardware.specs.declared.Port.{Port}
-use Rattle.answers.specs.declared.Answer.{Answer}
-use Rattle.answers.specs.declared.Answer.the-variants as answerv
-use Rattle.answers.specs.declared.Value.{Value}
 use Rattle.answers.specs.declared.Value.the-variants as value
 use Rattle.reference.specs.Hardware.{vetoed, linked}
 use Rattle.reference.specs.Mdio.{speedsOf}
-use Rattle.reference.specs.Operations.{Out, answer, nothing}
+use Rattle.reference.specs.Operations.{Out, answer, nothing, pollValue}
 use Rattle.hostif.specs.Command.{statusOf}
 use Rattle.hostif.specs.Token.{tokenGot}
 use Rattle.access.specs.Access.{jobTalk}
 use Rattle.activity.specs.Activity.{resumeActivity}
+use Rattle.watch.specs.Poll.{resumePoll}
+use Rattle.bringup.specs.Answer.{answerOf}
+use Rattle.bringup.specs.Bringup.{resumeBringup}
 use Rattle.operations.specs.Kr.{resumeKr}
 use Rattle.operations.specs.Mdio.{resumeMdio}
 use Rattle.operations.specs.declared.After.{After}
 use Rattle.operations.specs.declared.After.the-variants as after
 use Rattle.operations.specs.declared.AfterStep.{AfterStep}
 use Rattle.operations.specs.declared.AfterStep.the-variants as afterstep
-
-abbrev pub answerOf : Answer → Res Value
-answerOf (answerv.Ok v) = ok v
-answerOf (answerv.Err e) = err e
 
 abbrev pub afterNothing : Res ℕ → Talk Out
 afterNothing got = answer nothing (orStop (λ _. return tt) got)
@@ -56,6 +53,8 @@ resumeAfter port (after.Token take) got ws = answer value.Flag (tokenGot take go
 resumeAfter port (after.Activity asked s) got ws = answer value.Activity (resumeActivity port asked s got ws)
 resumeAfter port (after.Mdio s) got ws = resumeMdio port s got
 resumeAfter port (after.Kr s) got ws = resumeKr port s got
+resumeAfter port (after.Bringup veto s) got ws = keep (resumeBringup port veto s got ws) []
+resumeAfter port (after.Poll w s) got ws = answer pollValue (resumePoll port w s got)
 
 abbrev pub toldAfter : Port → List ℕ → AfterStep → Talk Out
 toldAfter port b (afterstep.Ask job s) = andThen (jobTalk port job b) (λ p. resumeAfter port s (p .0) (p .1))

@@ -11,21 +11,30 @@ use activity::Asked;
 use activity::Found;
 use answers::Answer;
 use answers::Value;
+use bringup::Bringup;
+use bringup::BringupStep;
 use hardware::Port;
 use hardware::Word;
 use hostif::token::Flag;
 use hostif::token::Token;
 use phy::abilities::speeds_of;
+use watch::poll::Poll;
+use watch::poll::PollStep;
+use watch::poll::Polled;
+use watch::store::Watch;
 use words::link::Link;
 ghost use Prim.Native.Nat.{ℕ};
-ghost use mathlib.Core.List.{List};
+ghost use mathlib.Core.List.{List, []};
 ghost use mathlib.Core.Path.{_≡_};
 ghost use lib.ListN.{take};
+ghost use Rattle.hardware.specs.Block.{keep};
 ghost use Rattle.hardware.specs.Told.{wordOf};
 ghost use Rattle.answers.specs.declared.Value.the-variants as value;
-ghost use Rattle.reference.specs.Operations.{answer};
+ghost use Rattle.reference.specs.Operations.{answer, pollValue};
 ghost use Rattle.hostif.specs.Token.{tokenGot};
 ghost use Rattle.activity.specs.Activity.{toldActivity};
+ghost use Rattle.bringup.specs.Bringup.{toldBringup};
+ghost use Rattle.watch.specs.Poll.{toldPoll};
 ghost use Rattle.operations.specs.After.{afterAbilities, afterCommand, afterLink, afterNothing, afterVeto, afterWord, resumeAfter, toldAfter};
 
 // What is left of an operation once its access has ended.
@@ -44,6 +53,9 @@ pub enum After {
     Activity(Asked, Activity),
     Mdio(Mdio),
     Kr(Kr),
+    // veto
+    Bringup(bool, Bringup),
+    Poll(Watch, Poll),
 }
 
 // Done: the answer, and how many words of the host block belong to it.
@@ -134,6 +146,38 @@ impl After {
         }
     }
 
+    pub fn bringup(port: Port, veto: bool, step: BringupStep) -> AfterStep
+        ensures { λ r. ⌜ ((b : List ℕ) → toldAfter port b r ≡ keep (toldBringup port veto b step) []) ⌝ }
+    {
+        match step {
+            BringupStep::Ask(job, s) => AfterStep::Ask(job, After::Bringup(veto, s)),
+            BringupStep::Done(answer) => AfterStep::Done(answer, 0),
+        }
+    }
+
+    pub fn poll(port: Port, watch: Watch, step: PollStep) -> AfterStep
+        ensures { λ r. ⌜ ((b : List ℕ) → toldAfter port b r ≡ answer pollValue (toldPoll port watch b step)) ⌝ }
+    {
+        match step {
+            PollStep::Ask(job, s) => AfterStep::Ask(job, After::Poll(watch, s)),
+            PollStep::Done(r) => match r {
+                Polled::Err(e) => AfterStep::Done(Answer::Err(e), 0),
+                Polled::Ok(copper, left) => {
+                    let forced = left.forced;
+                    let reforced = left.reforced;
+                    AfterStep::Done(
+                        Answer::Ok(Value::Poll {
+                            copper,
+                            forced,
+                            reforced,
+                        }),
+                        0,
+                    )
+                }
+            },
+        }
+    }
+
     pub fn next(self, port: Port, block: &mut [u32; 16], got: Word, words: usize) -> AfterStep
         ensures { λ r. ⌜ toldAfter port (now (block .exit)) r ≡ resumeAfter port self (wordOf got) (take words (now (block .entry))) ⌝ }
     {
@@ -151,6 +195,11 @@ impl After {
             }
             After::Mdio(s) => s.next(port, got),
             After::Kr(s) => s.next(port, got),
+            After::Bringup(veto, s) => {
+                let step = s.next(veto, port, block, got, words);
+                After::bringup(port, veto, step)
+            }
+            After::Poll(watch, s) => After::poll(port, watch, s.next(watch, port, got)),
         }
     }
 }

@@ -7,10 +7,12 @@ use native.Mathlib.Omega.{arith}
 use lib.Dec.{eqb, leb}
 use lib.ListN.{length, getD}
 use Rattle.hardware.specs.Talk.{pick}
+use Rattle.answers.specs.declared.MaybeStatus.{MaybeStatus}
+use Rattle.answers.specs.declared.MaybeStatus.the-variants as status
 use Rattle.phy.specs.declared.advertise.MaybeFlag.{MaybeFlag}
 use Rattle.phy.specs.declared.advertise.MaybeFlag.the-variants as maybe
 use Rattle.conversation.specs.declared.operation.Operation.{Operation}
-use Rattle.trace.specs.Kinds.{noMore, withWord, withHalf, withTruth, withMaybe}
+use Rattle.trace.specs.Kinds.{noMore, withWord, withHalf, withTruth, withMaybe, withStatus}
 use Rattle.trace.specs.declared.kinds.OperationLine.{OperationLine}
 use Rattle.trace.specs.declared.kinds.OperationLine.the-variants.{Is, Bad}
 
@@ -51,6 +53,14 @@ takes-maybe {k} t (v ∷ vs) g h =
     let one : length vs ≡ suc k → ⊥ = λ e. h (ap suc e) in
     either-bad (eqb v 0) (t maybe.Nothing vs none none) (either-bad (eqb v 1) (takes-truth (λ b. t (maybe.Is b)) vs one one) refl)
 
+pub takes-status : {k : ℕ} {next : MaybeStatus → List ℕ → OperationLine} → ((x : MaybeStatus) → Takes k k (next x)) → Takes (suc k) (suc (suc k)) (withStatus next)
+unfolding withStatus
+takes-status t [] g h = refl
+takes-status {k} t (v ∷ vs) g h =
+    let none : length vs ≡ k → ⊥ = λ e. g (ap suc e) in
+    let one : length vs ≡ suc k → ⊥ = λ e. h (ap suc e) in
+    either-bad (eqb v 0) (t status.Nothing vs none none) (either-bad (eqb v 1) (takes-half (λ s. t (status.Is s)) vs one one) refl)
+
 -- each kind at the words that are there
 pub none-done : (what : Operation) → noMore what [] ≡ Is what 0
 unfolding noMore
@@ -80,6 +90,15 @@ pub maybe-next : (next : MaybeFlag → List ℕ → OperationLine) (v : ℕ) (vs
     → withMaybe next (v ∷ vs) ≡ pick (eqb v 0) (next maybe.Nothing vs) (pick (eqb v 1) (withTruth (λ b. next (maybe.Is b)) vs) Bad)
 unfolding withMaybe
 maybe-next next v vs = refl
+
+pub word-short : (next : ℕ → List ℕ → OperationLine) → withWord next [] ≡ Bad
+unfolding withWord
+word-short next = refl
+
+pub status-next : (next : MaybeStatus → List ℕ → OperationLine) (v : ℕ) (vs : List ℕ)
+    → withStatus next (v ∷ vs) ≡ pick (eqb v 0) (next status.Nothing vs) (pick (eqb v 1) (withHalf (λ s. next (status.Is s)) vs) Bad)
+unfolding withStatus
+status-next next v vs = refl
 
 -- a test behind which the line is bad either way
 pub both-bad : (b : Bool) → pick b Bad Bad ≡ Bad

@@ -4,6 +4,8 @@ use mathlib.Core.Bool.{Bool}
 use mathlib.Core.List.{List, [], _∷_}
 use lib.Dec.{eqb, leb}
 use Rattle.hardware.specs.Talk.{pick}
+use Rattle.answers.specs.declared.MaybeStatus.{MaybeStatus}
+use Rattle.answers.specs.declared.MaybeStatus.the-variants as status
 use Rattle.phy.specs.declared.advertise.MaybeFlag.{MaybeFlag}
 use Rattle.phy.specs.declared.advertise.MaybeFlag.the-variants as maybe
 use Rattle.conversation.specs.declared.operation.Operation.{Operation}
@@ -36,3 +38,9 @@ unfoldable pub withMaybe : (MaybeFlag → List ℕ → OperationLine) → List �
 withMaybe next [] = Bad
 withMaybe next (v ∷ vs) =
     pick (eqb v 0) (next maybe.Nothing vs) (pick (eqb v 1) (withTruth (λ b. next (maybe.Is b)) vs) Bad)
+
+-- the same with a word whose upper half is clear
+unfoldable pub withStatus : (MaybeStatus → List ℕ → OperationLine) → List ℕ → OperationLine
+withStatus next [] = Bad
+withStatus next (v ∷ vs) =
+    pick (eqb v 0) (next status.Nothing vs) (pick (eqb v 1) (withHalf (λ s. next (status.Is s)) vs) Bad)

@@ -6,8 +6,8 @@ use Rattle.text.specs.Same.{same}
 use Rattle.kr.specs.declared.modify.Change.{Change}
 use Rattle.conversation.specs.declared.operation.Operation.the-variants.{KrRead, KrWrite, KrModify, RestartAn, KrAutoneg, NvmWord, AfterReset}
 use Rattle.trace.specs.Kinds.{noMore, withWord, withHalf, withTruth}
+use Rattle.trace.specs.Setups.{setupName}
 use Rattle.trace.specs.declared.kinds.OperationLine.{OperationLine}
-use Rattle.trace.specs.declared.kinds.OperationLine.the-variants.{Bad}
 
 abbrev pub withKrRead : List ℕ → OperationLine
 withKrRead = withWord λ address. noMore (KrRead address)
@@ -28,12 +28,12 @@ withKrAutoneg = withTruth λ kr. withTruth λ kx. noMore (KrAutoneg kr kx)
 abbrev pub withNvmWord : List ℕ → OperationLine
 withNvmWord = withHalf λ word. noMore (NvmWord word)
 
--- `nvm_word`, `after_reset`
+-- `nvm_word`, `after_reset`, or one of bringup and poll
 unfoldable pub restName : List ℕ → List ℕ → OperationLine
 restName w vs =
     pick (same w (110 ∷ 118 ∷ 109 ∷ 95 ∷ 119 ∷ 111 ∷ 114 ∷ 100 ∷ [])) (withNvmWord vs)
     (pick (same w (97 ∷ 102 ∷ 116 ∷ 101 ∷ 114 ∷ 95 ∷ 114 ∷ 101 ∷ 115 ∷ 101 ∷ 116 ∷ [])) (noMore AfterReset vs)
-    Bad)
+    (setupName w vs))
 
 -- `kr_read`, `kr_write`, `kr_modify`, `restart_an`, `kr_autoneg`, or one of the above
 unfoldable pub krName : List ℕ → List ℕ → OperationLine

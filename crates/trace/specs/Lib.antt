@@ -3,6 +3,7 @@ pub mod Kinds
 pub mod Mdio
 pub mod Operation
 pub mod Reply
+pub mod Setups
 pub mod Listing
 pub mod Turn
 pub mod Kr

@@ -2,6 +2,7 @@
 use crate::kinds::OperationLine;
 use crate::kinds::is_name;
 use crate::kinds::no_more;
+use crate::setups::setup_named;
 use conversation::operation::Operation;
 use kr::modify::Change;
 ghost use mathlib.Core.Path.{_≡_};
@@ -75,7 +76,7 @@ fn rest_named(name: &[u8], args: &[u32]) -> OperationLine
     if is_name(name, b"after_reset") {
         return no_more(Operation::AfterReset, args);
     }
-    OperationLine::Bad
+    setup_named(name, args)
 }
 
 pub fn kr_named(name: &[u8], args: &[u32]) -> OperationLine

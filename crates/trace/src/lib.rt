@@ -8,4 +8,5 @@ pub mod operation;
 pub mod port;
 pub mod registers;
 pub mod reply;
+pub mod setups;
 pub mod turn;

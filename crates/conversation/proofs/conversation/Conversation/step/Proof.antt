@@ -1,5 +1,6 @@
+use mathlib.Core.Path.{sym, _∙_}
 use borrow.Author.Needs.{needs}
-use borrow.Author.Tests.{eq-eqb, le-ltb, lt-ltb, ne-eqb}
+use Rattle.conversation.proofs.Laws.{at-place, step-waited, step-refused, step-done}
 use Rattle.conversation.proofs.conversation.Conversation.step.Statement.{statement}
 use Rattle.conversation.proofs.conversation.Conversation.step.Tie as tie
 
@@ -14,6 +15,9 @@ step-spec =
     (λ c κs. search needs)
     (λ c κs. search needs)
     (λ c. simp (c .enum-told .given .1))
-    (λ c. simp (c .before .before .before .before .place .given .1, c .before .before .uses-of .ensures, eq-eqb _ _ (c .before .if1 .taken), c .answered .ensures))
-    (λ c. simp (c .before .before .before .before .place .given .1, c .before .before .uses-of .ensures, ne-eqb _ _ (c .before .if1 .left), lt-ltb _ _ (c .if2 .taken)))
-    (λ c. simp (c .before .before .before .before .before .before .place .given .1, c .before .before .before .before .uses-of .ensures, ne-eqb _ _ (c .before .before .before .if1 .left), le-ltb _ _ (c .before .before .if2 .left), c .before .reply-of .ensures, c .answered2 .ensures)))
+    (λ c. let d = c .before .before in
+    step-waited _ _ _ (at-place (d .before .before .before .before .args .self) (d .before .before .place .given .1)) (d .uses-of .ensures ∙ c .before .if1 .taken) (c .answered .ensures))
+    (λ c. let d = c .before .before in
+    step-refused _ _ _ (at-place (d .before .before .before .before .args .self) (d .before .before .place .given .1)) (λ z. c .before .if1 .left (sym (d .uses-of .ensures) ∙ z)) (c .if2 .taken))
+    (λ c. let d = c .before .before .before .before in
+    step-done _ _ _ (at-place (d .before .before .before .before .args .self) (d .before .before .place .given .1)) (λ z. c .before .before .before .if1 .left (sym (d .uses-of .ensures) ∙ z)) (c .before .before .if2 .left) (c .before .reply-of .ensures) (c .answered2 .ensures)))
