@@ -1,5 +1,5 @@
-use borrow.Author.Needs.{needs}
 use Rattle.trace.specs.Kr.{restName}
+use borrow.Author.Needs.{needs}
 use Rattle.trace.proofs.kr_registers.rest_named.Statement.{statement}
 use Rattle.trace.proofs.kr_registers.rest_named.Tie as tie
 
@@ -16,4 +16,5 @@ rest-named-spec =
     (λ c κs. search needs)
     (λ c κs. search needs)
     (λ c. simp (c .before .before .before .before .before .is-name .ensures, c .before .before .before .before .if1 .left, c .before .before .is-name2 .ensures, c .before .if2 .taken, c .no-more .ensures))
-    (λ c. simp (c .before .before .before .before .is-name .ensures, c .before .before .before .if1 .left, c .before .is-name2 .ensures, c .if2 .left)))
+    (λ c κs. search needs)
+    (λ c. simp (c .before .before .before .before .before .is-name .ensures, c .before .before .before .before .if1 .left, c .before .before .is-name2 .ensures, c .before .if2 .left, c .setup-named .ensures)))
