@@ -13,5 +13,5 @@ after-clock-spec =
     (λ c. search needs)
     (λ c κs. search needs)
     (λ c. simp (c .before .step .given .1, then-assoc))
-    (λ c. simp (c .before .before .before .before .step2 .given .1, c .before .r .given .1, then-assoc))
-    (λ c. simp (c .before .before .before .before .before .step2 .given .1, c .before .before .enum-told .given .1, c .devices .ensures, then-assoc)))
+    (λ c. simp (c .before .before .before .before .step2 .given .1, c .before .r .given .1))
+    (λ c. simp (c .before .before .before .before .before .step2 .given .1, c .before .before .enum-told .given .1, c .devices .ensures)))

@@ -1,4 +1,3 @@
-use Rattle.hardware.proofs.Laws.{then-assoc}
 use borrow.Author.Needs.{needs}
 use Rattle.bringup.proofs.Bringup.devices.Statement.{statement}
 use Rattle.bringup.proofs.Bringup.devices.Tie as tie
@@ -11,5 +10,5 @@ devices-spec =
     (λ c κs. search needs)
     (λ c. search needs)
     (λ c κs. search needs)
-    (λ c. simp (c .before .enum-told .given .1, c .devices552 .ensures, then-assoc))
-    (λ c. simp (c .before .before .enum-told2 .given .1, c .devices553 .ensures, then-assoc)))
+    (λ c. simp (c .before .enum-told .given .1, c .devices552 .ensures))
+    (λ c. simp (c .before .before .enum-told2 .given .1, c .devices553 .ensures)))

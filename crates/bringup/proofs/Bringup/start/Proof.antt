@@ -1,5 +1,4 @@
 use Rattle.reference.specs.Operations.{bringup}
-use Rattle.hardware.proofs.Laws.{then-assoc}
 use borrow.Author.Needs.{needs}
 use Rattle.bringup.proofs.Bringup.start.Statement.{statement}
 use Rattle.bringup.proofs.Bringup.start.Tie as tie
@@ -13,5 +12,5 @@ start-spec =
     (λ c κs. search needs)
     (λ c. search needs)
     (λ c κs. search needs)
-    (λ c. simp (c .before .enum-told .given .1, c .devices552 .ensures, then-assoc))
+    (λ c. simp (c .before .enum-told .given .1, c .devices552 .ensures))
     (λ c. search needs))

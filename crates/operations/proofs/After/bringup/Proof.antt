@@ -10,4 +10,4 @@ bringup-spec =
     (λ c. search needs)
     (λ c. search needs)
     (λ c. λ b. simp (c .before .step .given .1, then-assoc))
-    (λ c. λ b. simp (c .before .step2 .given .1, then-assoc)))
+    (λ c. λ b. simp (c .before .step2 .given .1)))

@@ -12,5 +12,5 @@ poll-spec =
     (λ c. search needs)
     (λ c. search needs)
     (λ c. λ b. simp (c .before .step .given .1, then-assoc))
-    (λ c. λ b. simp (c .before .before .before .before .step2 .given .1, c .before .r .given .1, then-assoc))
-    (λ c. λ b. simp (c .before .before .before .before .step2 .given .1, c .before .r2 .given .1, then-assoc)))
+    (λ c. λ b. simp (c .before .before .before .before .step2 .given .1, c .before .r .given .1))
+    (λ c. λ b. simp (c .before .before .before .before .step2 .given .1, c .before .r2 .given .1)))
