@@ -52,12 +52,12 @@ copperValue X553 s = value.X553 (setup553.X557 (setup552.Copper s))
 abbrev pub krThen : Port → Call ℕ → Call Value
 krThen port t = t >>= λ lc1. return (krValue (port .family) lc1)
 
-abbrev pub sgmiiThen : Call Setup553 → Call Value
-sgmiiThen t = t >>= λ s. return (value.X553 s)
+abbrev pub answer553 : Call Setup553 → Call Value
+answer553 t = t >>= λ s. return (value.X553 s)
 
 abbrev pub laneTalk : Port → Lane → Call Value
 laneTalk port (lane.Kr kr) = krThen port (krAutoneg 10 port kr true)
-laneTalk port lane.Sgmii = sgmiiThen (sgmii 10 port)
+laneTalk port lane.Sgmii = answer553 (sgmii 10 port)
 
 abbrev pub vetoedTalk : Port → Bool → Lane → Call Value
 vetoedTalk port veto l = vetoed veto (return (vetoValue (port .family))) (laneTalk port l)
@@ -78,11 +78,8 @@ linkThen port t = t >>= λ s. return (copperValue (port .family) s)
 abbrev pub copperThen : Port → Bool → Call X557 → Call Value
 copperThen port veto t = t >>= λ x. linkThen port (copperLink 10 port veto x)
 
-abbrev pub setThen : Call Setup553 → Call Value
-setThen t = t >>= λ s. return (value.X553 s)
-
 abbrev pub firmwareThen : Port → Bool → Call x553.Prepared → Call Value
-firmwareThen port veto t = t >>= λ p. setThen (setupPrepared 10 port veto p)
+firmwareThen port veto t = t >>= λ p. answer553 (setupPrepared 10 port veto p)
 
 -- the Rust's prepare and setup, on the X553 after `set_mdio_speed`
 abbrev pub devicesOf : Port → Bool → Family → Call Value
@@ -99,9 +96,9 @@ resumeBringup port veto (bringup.Firmware s) got ws = firmwareThen port veto (fi
 resumeBringup port veto (bringup.Sel kr) got ws = gotSel port veto kr got
 resumeBringup port veto (bringup.Mmngc l) got ws = gotMmngc port l got
 resumeBringup port veto (bringup.Kr s) got ws = krThen port (resumeSequence port s got)
-resumeBringup port veto (bringup.Sgmii s) got ws = sgmiiThen (resumeSgmii port s got)
+resumeBringup port veto (bringup.Sgmii s) got ws = answer553 (resumeSgmii port s got)
 resumeBringup port veto (bringup.Link x s) got ws = linkThen port (resumeLink port (copperOf veto x) s got)
-resumeBringup port veto (bringup.SetupFirmware s) got ws = setThen (resumeFirmware port s got ws)
+resumeBringup port veto (bringup.SetupFirmware s) got ws = answer553 (resumeFirmware port s got ws)
 
 abbrev pub toldBringup : Port → Bool → List ℕ → BringupStep → Call Value
 toldBringup port veto b (bringupstep.Ask job s) = andThen (jobTalk port job b) (λ p. resumeBringup port veto s (p .0) (p .1))

@@ -55,10 +55,9 @@ ghost use Rattle.bringup.specs.Bringup.{
   vetoedTalk,
   devicesOf,
   krThen,
-  sgmiiThen,
+  answer553,
   linkThen,
   copperThen,
-  setThen,
   firmwareThen,
   clockThen,
   gotMmngc,
@@ -139,7 +138,7 @@ impl Bringup {
     }
 
     fn after_sgmii(veto: bool, port: Port, step: SgmiiStep) -> BringupStep
-        ensures { λ r. ⌜ ((b : List ℕ) → toldBringup port veto b r ≡ sgmiiThen (toldSgmii port b step)) ⌝ }
+        ensures { λ r. ⌜ ((b : List ℕ) → toldBringup port veto b r ≡ answer553 (toldSgmii port b step)) ⌝ }
     {
         match step {
             SgmiiStep::Ask(job, s) => BringupStep::Ask(job, Bringup::Sgmii(s)),
@@ -243,7 +242,7 @@ impl Bringup {
     }
 
     fn after_set(veto: bool, port: Port, step: FirmwareStep) -> BringupStep
-        ensures { λ r. ⌜ ((b : List ℕ) → toldBringup port veto b r ≡ setThen (toldFirmware port b step)) ⌝ }
+        ensures { λ r. ⌜ ((b : List ℕ) → toldBringup port veto b r ≡ answer553 (toldFirmware port b step)) ⌝ }
     {
         match step {
             FirmwareStep::Ask(job, s) => BringupStep::Ask(job, Bringup::SetupFirmware(s)),

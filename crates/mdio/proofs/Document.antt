@@ -1,7 +1,7 @@
 -- The commands that read_reg and write_reg write to MSCA are the public document's words for their fields
 use Prim.Native.Nat.{ℕ, _/_, _^_, _<_}
 use mathlib.Core.Bool.{true}
-use mathlib.Core.Path.{_≡_, ap, ap₂}
+use mathlib.Core.Path.{_≡_, ap₂}
 use Rattle.hardware.specs.Talk.{Call, _>>=_, _>>_, readRaw, write, return}
 use Rattle.words.specs.Mdio.{address, addressCycle, readCycle, writeCycle}
 use Rattle.words.specs.Mdio as document

@@ -92,7 +92,7 @@ fn hostif_named(name: &[u8], args: &[u32]) -> OperationLine
     mdio_named(name, args)
 }
 
-fn named(name: &[u8], args: &[u32]) -> OperationLine
+pub fn named(name: &[u8], args: &[u32]) -> OperationLine
     ensures { λ r. ⌜ byName (now (name .entry)) (now (args .entry)) ≡ r ⌝ }
 {
     if is_name(name, b"veto") {

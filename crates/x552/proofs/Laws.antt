@@ -1,5 +1,4 @@
 -- `copper_link` begins with the one read of `abilities`
-use Prim.Native.Nat.{ℕ}
 use mathlib.Core.List.{[]}
 use mathlib.Core.Path.{_≡_, sym, _∙_}
 use Rattle.hardware.specs.Talk.{andThen, return}

@@ -7,7 +7,6 @@ use Rattle.hardware.specs.Talk.{Call, _>>=_, _>>_, return}
 use Rattle.hardware.specs.declared.Port.{Port}
 use Rattle.answers.specs.declared.FirmwarePhy.{FirmwarePhy}
 use Rattle.answers.specs.declared.Setup553.{Setup553}
-use Rattle.answers.specs.declared.Words.{Words}
 use Rattle.reference.specs.Hostif.{phyActivity}
 use Rattle.reference.specs.X553.{firmware, firmwareLinked, firmwareUp, setupFwLink, sgmiiAn}
 use Rattle.reference.specs.X553 as x553

@@ -1,0 +1,4 @@
+pub mod Conversation
+pub mod Held
+pub mod Port
+pub mod Border

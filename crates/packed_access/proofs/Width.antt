@@ -1,0 +1,6 @@
+pub mod Hardware
+pub mod Hostif
+pub mod Sync
+pub mod Mdio
+pub mod Sideband
+pub mod Access

@@ -1,0 +1,20 @@
+use borrow.Author.Needs.{needs}
+use Rattle.packed_access.proofs.Laws.{added-more}
+use Rattle.packed_after.specs.Answers.{wordsMaybeWord, getMaybeWord}
+use Rattle.packed_access.specs.Tape.{wordAt}
+use Rattle.packed_after.proofs.p_answers.put_maybe_word.Statement.{statement}
+use Rattle.packed_after.proofs.p_answers.put_maybe_word.Tie as tie
+
+pub put-maybe-word-spec : {M : Type 1} → statement M
+unfolding wordsMaybeWord getMaybeWord wordAt
+put-maybe-word-spec =
+    tie.close
+    (tie.spec
+    (λ c. search needs)
+    (λ c κs. search needs)
+    (λ c κs. search needs)
+    (λ c. search needs)
+    (λ c κs. search needs)
+    (λ c κs. search needs)
+    (λ c. (simp (c .before .before .enum-told .given .1, c .before .word .ensures, c .word2 .ensures, added-more), λ rest. simp (c .before .before .enum-told .given .1)))
+    (λ c. (simp (c .before .before .before .s .given .1, c .before .word3 .ensures, c .word4 .ensures, added-more), λ rest. simp (c .before .before .before .s .given .1))))
