@@ -106,8 +106,8 @@ int main(void)
 
     /* Calls that are wrong get a number, and change nothing. */
     const uint32_t phy[1] = {32};
-    operate("bringdown", NULL, 0); /* no such operation */
-    operate("bringup", NULL, 0);   /* an argument short */
+    operate("bringdown", veto, 0); /* no such operation */
+    operate("bringup", veto, 0);   /* an argument short */
     operate("probe", phy, 1);      /* a PHY address above 31 */
     mansruoy_conversation garbage;
     memset(&garbage, 0xa5, sizeof garbage);

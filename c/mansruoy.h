@@ -4,7 +4,7 @@
  * and hands back a reply, and at the end there is an answer. The host holds the conversation as plain words, by value:
  * copy it, keep it, pass it back as it was given. Nothing is kept inside, so any number of conversations may run side by side.
  *
- *     mansruoy_stepped s = mansruoy_begin(552, 0x15ad, 0, "link", 4, NULL, 0);
+ *     mansruoy_stepped s = mansruoy_begin(552, 0x15ad, 0, "kr_read", 7, &address, 1);
  *     for (mansruoy_asked a; s.number == 0 && (a = mansruoy_action(s.to)).number == 0;)
  *         s = mansruoy_step(s.to, 0, done_by_host(a));
  *     mansruoy_answered r = mansruoy_answer(s.to);
@@ -14,7 +14,9 @@
  * stop a run, which goes on from what it gives back); 28 no such family, device or operation, or arguments that are not the
  * operation's; 29 words that are no conversation; 30 it has not ended. A call that is turned away changes nothing.
  *
- * Link with target/staticlib/libborder.a (rt staticlib border); x86-64, no C library needed. */
+ * No pointer may be null, also where its length is 0, and the two buffers of a run do not overlap.
+ *
+ * Link with target/staticlib/libborder.a (rt staticlib border); x86-64. It needs memcpy and memset, and nothing else of a C library. */
 #ifndef MANSRUOY_H
 #define MANSRUOY_H
 
