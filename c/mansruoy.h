@@ -24,7 +24,7 @@
 #include <stdint.h>
 
 typedef struct {
-    uint32_t words[65]; /* what they mean may change; those that no call gave are refused */
+    uint32_t words[65]; /* what they mean may change; words that are no conversation's are refused */
     uint32_t block[16]; /* the host block of a `command`; at its end, the words of its reply */
 } mansruoy_conversation;
 
