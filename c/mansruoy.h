@@ -28,7 +28,7 @@ typedef struct {
     uint32_t block[16]; /* the host block of a `command`; at its end, the words of its reply */
 } mansruoy_conversation;
 
-/* number 0: the conversation as it is now; else what was handed in */
+/* number 0: the conversation as it is now; else what was handed in, and from `begin` words that are no conversation's */
 typedef struct {
     uint32_t number;
     mansruoy_conversation to;

@@ -1,5 +1,5 @@
 -- A conversation's words, all of them, and what a call makes of what it is given
-use Prim.Native.Nat.{ℕ, _≤_}
+use Prim.Native.Nat.{ℕ, zero, suc, _≤_}
 use native.Mathlib.Omega.{arith}
 use mathlib.Core.Path.{_≡_, refl, ap, sym, _∙_}
 use mathlib.Core.Bool.{Bool, true, false, not}
@@ -151,6 +151,15 @@ pub answers-at : (c : Held) (k : Conversation) (p : Place) → isHeld c ≡ true
     → answering (told (k .port) p (k .block)) (k .actions) (k .micros) ≡ answers c
 unfolding answers
 answers-at c k p e f g = rw (e, sym g, f) refl
+
+-- as many words as are shown are those that are shown
+take-shown : (n : ℕ) (ws : List ℕ) → take (length (take n ws)) ws ≡ take n ws
+take-shown zero ws = refl
+take-shown (suc n) [] = refl
+take-shown (suc n) (w ∷ ws) = ap (λ l. w ∷ l) (take-shown n ws)
+
+pub counted : (n k : ℕ) (ws vs : List ℕ) → take n ws ≡ vs → length (take n ws) ≡ k → (k ≡ length vs) × (take (length vs) ws ≡ vs)
+counted n k ws vs e h = (sym h ∙ ap length e, ap (λ l. take (length l) ws) (sym e) ∙ take-shown n ws ∙ e)
 
 -- a run
 pub runs-none : (c : Held) (rs t : List ℕ) (at : ℕ) → isHeld c ≡ false → ranOf (record { number = 29; to = c; at = at; used = 0 }) t ≡ runs c rs t at

@@ -72,10 +72,11 @@ asking (ask a k) = record { number = 0; kind = act.kind a; register = act.regist
 unfoldable pub asks : Held → Asked
 asks c = pick (isHeld c) (asking (convOf (heldBy c) .talk)) (none 29)
 
--- a call's number, the error's number or 0, the answer's words, and the counts
+-- a call's number, the error's number or 0, how many words the answer has and those words, and the conversation's counts
 pub record Told : Type 0 where
   pub number : ℕ
   pub error : ℕ
+  pub count : ℕ
   pub words : List ℕ
   pub actions : ℕ
   pub micros : ℕ
@@ -85,18 +86,21 @@ answeredOf r =
     record {
       number = r .number;
       error = r .error;
+      count = r .count;
       words = take (r .count) (r .words);
       actions = r .actions;
       micros = r .micros;
     }
 
 abbrev pub noAnswer : ℕ → ℕ → ℕ → Told
-noAnswer n actions micros = record { number = n; error = 0; words = []; actions = actions; micros = micros }
+noAnswer n actions micros = record { number = n; error = 0; count = 0; words = []; actions = actions; micros = micros }
+
+abbrev pub saying : ℕ → List ℕ → ℕ → ℕ → Told
+saying e ws actions micros = record { number = 0; error = e; count = length ws; words = ws; actions = actions; micros = micros }
 
 abbrev pub answer : Res Value → ℕ → ℕ → Told
-answer (ok v) actions micros = record { number = 0; error = 0; words = value v; actions = actions; micros = micros }
-answer (err e) actions micros =
-    record { number = 0; error = error.number e; words = error.values e; actions = actions; micros = micros }
+answer (ok v) actions micros = saying 0 (value v) actions micros
+answer (err e) actions micros = saying (error.number e) (error.values e) actions micros
 
 -- 30 before the end
 abbrev pub answering : Talk Out → ℕ → ℕ → Told

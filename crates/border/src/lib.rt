@@ -188,10 +188,11 @@ fn answer_words(what: Answer, actions: u64, micros: u64) -> Answered
         Answer::Ok(v) => {
             let f = fields_of(v);
             let words = f.words;
+            let count = f.count();
             Answered {
                 number: 0,
                 error: 0,
-                count: f.len,
+                count,
                 actions,
                 micros,
                 words,
@@ -200,10 +201,11 @@ fn answer_words(what: Answer, actions: u64, micros: u64) -> Answered
         Answer::Err(e) => {
             let f = error_fields(e);
             let words = f.words;
+            let count = f.count();
             Answered {
                 number: 0,
                 error: error_number(e),
-                count: f.len,
+                count,
                 actions,
                 micros,
                 words,
