@@ -166,7 +166,7 @@ impl Access {
         }
     }
 
-    fn under(port: Port, mask: u32, step: LockedStep) -> AccessStep
+    pub fn under(port: Port, mask: u32, step: LockedStep) -> AccessStep
         ensures { λ r. ⌜ ((b : List ℕ) → toldAccess port b r ≡ keep (toldLocked port mask b step) []) ⌝ }
     {
         match step {

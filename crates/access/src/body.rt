@@ -40,7 +40,7 @@ pub enum BodyStep {
 }
 
 impl Body {
-    fn mdio(wanted: Wanted, step: MdioStep) -> BodyStep
+    pub fn mdio(wanted: Wanted, step: MdioStep) -> BodyStep
         ensures { λ r. ⌜ ((b : List ℕ) → toldBody b r ≡ toldMdio wanted step) ⌝ }
     {
         match step {
@@ -49,7 +49,7 @@ impl Body {
         }
     }
 
-    fn kr(wanted: KrWanted, step: KrStep) -> BodyStep
+    pub fn kr(wanted: KrWanted, step: KrStep) -> BodyStep
         ensures { λ r. ⌜ ((b : List ℕ) → toldBody b r ≡ toldKr 10 wanted step) ⌝ }
     {
         match step {

@@ -244,7 +244,7 @@ impl Hold {
         }
     }
 
-    fn bits(
+    pub fn bits(
         port: Port,
         hw: u32,
         block: &mut [u32; 16],

@@ -87,7 +87,7 @@ impl Locked {
     }
 
     // Whatever the body gave, the mask is given back.
-    fn after_body(port: Port, mask: u32, block: &mut [u32; 16], step: BodyStep) -> LockedStep
+    pub fn after_body(port: Port, mask: u32, block: &mut [u32; 16], step: BodyStep) -> LockedStep
         ensures { λ r. ⌜ toldLocked port mask (now (block .exit)) r ≡ lockedAfterBody port mask (toldBody (now (block .entry)) step) ⌝ }
     {
         match step {
@@ -119,7 +119,7 @@ impl Locked {
         Locked::Hold(HoldPlace::Acquiring(held), state)
     }
 
-    fn held(
+    pub fn held(
         port: Port,
         mask: u32,
         block: &mut [u32; 16],

@@ -19,28 +19,29 @@ use Rattle.hardware.specs.declared.Port.{Port}
 use Rattle.packed_access.specs.Tape.{kept}
 use Rattle.packed_access.proofs.Laws.{added-more}
 use Rattle.packed_access.proofs.Width.Hardware.{family-length}
-use Rattle.conversation.specs.Conversation.{Conv, Step, steppedOf, convOf, stepTalk, begun, phyOf, deviceOf, number, told}
+use Rattle.conversation.specs.Conversation.{Conv, Step, steppedOf, convOf, stepTalk, begun, number}
+use Rattle.started.specs.Operation.{phyOf, deviceOf, told}
 use Rattle.conversation.specs.Run.{Shown, shownOf, tapeOf, left, runAll}
-use Rattle.conversation.specs.declared.operation.Operation.{Operation}
+use Rattle.started.specs.declared.operation.Operation.{Operation}
 use Rattle.conversation.specs.declared.conversation.Conversation.{Conversation}
 use Rattle.conversation.specs.declared.conversation.Stepped.{Stepped}
 use Rattle.conversation.specs.declared.conversation.Stop.{Stop}
 use Rattle.conversation.specs.declared.conversation.Stop.the-variants as stop
-use Rattle.conversation.specs.declared.operation.Place.{Place}
-use Rattle.conversation.specs.declared.operation.Place.the-variants as place
+use Rattle.started.specs.declared.operation.Place.{Place}
+use Rattle.started.specs.declared.operation.Place.the-variants as place
 use Rattle.bringup.specs.Answer.{answerOf}
 use Rattle.answers.specs.declared.Answer.{Answer}
 use Rattle.hardware.specs.declared.Action.{Action}
-use Rattle.conversation.specs.declared.operation.Op.{Op}
+use Rattle.started.specs.declared.operation.Op.{Op}
 use Rattle.border.specs.declared.Asked.{Asked}
-use Rattle.conversation.specs.Act as act
-use Rattle.border.specs.Conversation.{wordsPlace, getPlace}
+use Rattle.drive.specs.Act as act
+use Rattle.border.specs.Started.{wordsPlace, getPlace}
 use Rattle.border.specs.Held.{wordsOf, heldBy, isHeld}
 use Rattle.border.specs.Border.{Outcome, went, stayed, outcomeOf, nothing, opens, stepped, steps, asking, asks, none, Told, answering, answersOf, answers, noAnswer, ranBy, ran, kept as keptWords, ranOf, runs}
 use Rattle.border.specs.declared.Ran.{Ran}
 use Rattle.conversation.specs.declared.run.Ran as code
 use Rattle.border.specs.declared.held.Held.{Held}
-use Rattle.border.proofs.Width.Conversation.{place-length}
+use Rattle.border.proofs.Width.Started.{place-length}
 
 pub wordsOf-length : (c : Conversation) → length (wordsOf c) ≡ 65
 unfolding wordsOf

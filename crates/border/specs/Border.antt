@@ -9,10 +9,12 @@ use Rattle.hardware.specs.Talk.{Talk, ask, end, Res, ok, err, pick}
 use Rattle.hardware.specs.declared.Port.{Port}
 use Rattle.answers.specs.Fields.{value}
 use Rattle.answers.specs.declared.Value.{Value}
-use Rattle.conversation.specs.Act as act
-use Rattle.conversation.specs.Conversation.{Conv, Out, Step, convOf, begun, phyOf, deviceOf, number, stepTalk}
-use Rattle.conversation.specs.Run.{Tape, Shown, tapeOf, left, runAll}
-use Rattle.conversation.specs.declared.operation.Operation.{Operation}
+use Rattle.drive.specs.Act as act
+use Rattle.conversation.specs.Conversation.{Conv, Step, convOf, begun, number, stepTalk}
+use Rattle.started.specs.Operation.{Out, phyOf, deviceOf}
+use Rattle.drive.specs.Moves.{Tape}
+use Rattle.conversation.specs.Run.{Shown, tapeOf, left, runAll}
+use Rattle.started.specs.declared.operation.Operation.{Operation}
 use Rattle.trace.specs.declared.kinds.OperationLine.{OperationLine}
 use Rattle.trace.specs.declared.kinds.OperationLine.the-variants as line
 use Rattle.trace.specs.declared.port.PortLine.{PortLine}

@@ -7,7 +7,7 @@ use Rattle.text.specs.Same.{same}
 use Rattle.packed_access.specs.Tape.{wordAt, joined}
 use Rattle.packed_access.specs.Hardware.{wordsFamily, getFamily}
 use Rattle.conversation.specs.declared.conversation.Conversation.{Conversation}
-use Rattle.border.specs.Conversation.{wordsPlace, getPlace}
+use Rattle.border.specs.Started.{wordsPlace, getPlace}
 use Rattle.border.specs.declared.held.Held.{Held}
 
 -- 65 words: the port's device and lan, the two counts, its family, and where it stands

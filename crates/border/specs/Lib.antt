@@ -1,4 +1,4 @@
-pub mod Conversation
+pub mod Started
 pub mod Held
 pub mod Port
 pub mod Border

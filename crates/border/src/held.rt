@@ -1,6 +1,6 @@
 // A conversation as the caller holds it: plain words, and its host block.
-use crate::p_conversation::get_place;
-use crate::p_conversation::put_place;
+use crate::p_started::get_place;
+use crate::p_started::put_place;
 use conversation::conversation::Conversation;
 use hardware::Port;
 use packed_access::p_hardware::get_family;

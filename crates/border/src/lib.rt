@@ -1,7 +1,7 @@
 // The part as C calls it (c/mansruoy.h). The caller holds a conversation as words, hands it in and gets it back by value; nothing
 // is kept here. No enum crosses.
 pub mod held;
-pub mod p_conversation;
+pub mod p_started;
 pub mod port;
 
 use crate::held::Held;
@@ -13,15 +13,15 @@ use answers::Answer;
 use answers::fields::error_fields;
 use answers::fields::error_number;
 use answers::fields::fields_of;
-use conversation::action::kind_of;
-use conversation::action::register_of;
-use conversation::action::value_of;
 use conversation::conversation::Conversation;
-use conversation::operation::Operation;
-use conversation::operation::Place;
 use conversation::run::run;
+use drive::kind_of;
+use drive::register_of;
+use drive::value_of;
 use hardware::Port;
 use hardware::Unit;
+use started::operation::Operation;
+use started::operation::Place;
 use trace::kinds::OperationLine;
 use trace::operation::named;
 use trace::port::PortLine;

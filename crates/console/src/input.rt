@@ -89,7 +89,7 @@ fn read_to(part: &mut [u8]) -> usize
 }
 
 // What is there of the next line.
-fn look(buf: &[u8], input: Input) -> Seen
+pub fn look(buf: &[u8], input: Input) -> Seen
     ensures { λ r. ⌜ lookIn (now (buf .entry)) input ≡ r ⌝ }
 {
     let to = input.to;

@@ -3,7 +3,7 @@ use crate::input::Input;
 use crate::input::Next;
 use crate::input::fetch;
 use crate::part::part;
-use conversation::action::uses_of;
+use drive::uses_of;
 use hardware::Action;
 use trace::reply::ReplyLine;
 use trace::reply::reply_line;

@@ -1,4 +1,6 @@
-// A conversation that has begun, action by action.
+// A conversation that has begun, to its end.
+use crate::ahead::Moved;
+use crate::ahead::ahead;
 use crate::ending::ended;
 use crate::ending::stop;
 use crate::input::Input;
@@ -6,12 +8,7 @@ use crate::output::print;
 use crate::reply::Due;
 use crate::reply::answer;
 use conversation::conversation::Conversation;
-use conversation::operation::Place;
-
-struct Moved {
-    to: Conversation,
-    n: usize,
-}
+use started::operation::Place;
 
 // What is left of the input behind a listing, and how many bytes wait to be written.
 pub struct Listed {
@@ -20,25 +17,60 @@ pub struct Listed {
 }
 
 // One action is done, and its line printed.
-fn act(c: Conversation, replies: &[u32], out: &mut [u8], n: usize) -> Moved {
+fn act(c: Conversation, input: Input, replies: &[u32], out: &mut [u8], n: usize) -> Moved {
     let mut line = [0u8; 512];
     let t = trace::turn::turn(c, replies, &mut line);
     let to = t.to;
     Moved {
         to,
+        input,
         n: print(out, n, &line, t.len),
     }
 }
 
-fn go_on(c: Conversation, due: Due, out: &mut [u8], n: usize) -> Moved {
+fn go_on(c: Conversation, input: Input, due: Due, out: &mut [u8], n: usize) -> Moved {
     let none = [0u32; 2];
     match due {
-        Due::Stop(_) => Moved { to: c, n },
-        Due::Nothing => act(c, &none[0..0], out, n),
+        Due::Stop(_) => Moved { to: c, input, n },
+        Due::Nothing => act(c, input, &none[0..0], out, n),
         Due::Reply(kind, value) => {
             let pair = [kind, value];
-            act(c, &pair, out, n)
+            act(c, input, &pair, out, n)
         }
+    }
+}
+
+// Where a listing has come to, and the number that it stops with, 0 while it does not.
+struct Came {
+    moved: Moved,
+    number: u32,
+}
+
+// What the replies in the buffer answer; then one action, whose reply is fetched.
+fn onward(c: Conversation, buf: &mut [u8], input: Input, out: &mut [u8], n: usize) -> Came {
+    let m = ahead(c, buf, input, out, n);
+    let to = m.to;
+    let place = to.place;
+    let Place::Asks(a, _) = place else {
+        return Came {
+            moved: m,
+            number: 0,
+        };
+    };
+    let d = answer(a, buf, m.input);
+    let due = d.due;
+    let rest = d.input;
+    if let Due::Stop(number) = due {
+        let moved = Moved {
+            to,
+            input: rest,
+            n: m.n,
+        };
+        return Came { moved, number };
+    }
+    Came {
+        moved: go_on(to, rest, due, out, m.n),
+        number: 0,
     }
 }
 
@@ -60,26 +92,32 @@ pub fn talk(
     n: usize,
     asked: bool,
 ) -> Listed {
-    let mut m = Moved { to: c, n };
-    let mut now = input;
+    let mut m = Moved { to: c, input, n };
     let mut turns: u64 = u64::MAX;
     while turns > 0 {
         let to = m.to;
         let place = to.place;
-        let Place::Asks(a, _) = place else {
+        if let Place::Ended(_, _) = place {
             break;
-        };
-        let d = answer(a, buf, now);
-        let due = d.due;
-        now = d.input;
-        if let Due::Stop(number) = due {
-            let end = stop(number, to.actions, to.micros, out, m.n);
-            return Listed { input: now, n: end };
         }
-        m = go_on(to, due, out, m.n);
+        let o = onward(to, buf, m.input, out, m.n);
+        m = o.moved;
+        if o.number != 0 {
+            let to = m.to;
+            let rest = m.input;
+            let end = stop(o.number, to.actions, to.micros, out, m.n);
+            return Listed {
+                input: rest,
+                n: end,
+            };
+        }
         turns -= 1;
     }
     let to = m.to;
+    let rest = m.input;
     let end = close(to, out, m.n, asked);
-    Listed { input: now, n: end }
+    Listed {
+        input: rest,
+        n: end,
+    }
 }

@@ -12,9 +12,10 @@ use Rattle.hardware.proofs.Refusal.{Taken, taken}
 use Rattle.reference.specs.Bounds.{actions, micros}
 use Rattle.reference.specs.Operations.{Op, operation}
 use Rattle.reference.proofs.Bounds.Operations.{operation-within, operation-fits, Fits}
-use Rattle.conversation.specs.Conversation.{Out, opOf, phyOf, deviceOf, started, begun}
-use Rattle.conversation.specs.declared.operation.Operation.{Operation}
-use Rattle.conversation.specs.declared.operation.Operation.the-variants as operationv
+use Rattle.conversation.specs.Conversation.{started, begun}
+use Rattle.started.specs.Operation.{Out, opOf, phyOf, deviceOf}
+use Rattle.started.specs.declared.operation.Operation.{Operation}
+use Rattle.started.specs.declared.operation.Operation.the-variants as operationv
 
 fits-begun : (what : Operation) (ws : List ℕ) → length ws ≤ 16 → Fits (opOf what ws)
 fits-begun operationv.Veto ws h = operation-fits _ (omega arith)

@@ -17,19 +17,22 @@ use Rattle.hardware.specs.declared.Action.{Action}
 use Rattle.hardware.specs.declared.Action.the-variants.{Read, Write, Wait}
 use Rattle.hardware.specs.declared.Reply.{Reply}
 use Rattle.hardware.specs.declared.Reply.the-variants as reply
-use Rattle.conversation.specs.Act.{uses, words, replyOf, replyFor}
-use Rattle.conversation.specs.Conversation.{Conv, Out, told, convOf, gone, stepTalk, padded, phyOf, deviceOf, opOf, opening, begun}
+use Rattle.drive.specs.Act.{uses, words, replyOf, replyFor}
+use Rattle.drive.specs.Moves.{Tape, onTape, tape, Moves, stays, goes}
+use Rattle.drive.specs.declared.Host.{Host}
+use Rattle.drive.proofs.Laws.{act-done, told-as}
+use Rattle.conversation.specs.Conversation.{Conv, convOf, gone, stepTalk, padded, opening, begun}
+use Rattle.started.specs.Operation.{Out, told, phyOf, deviceOf, opOf}
 use Rattle.conversation.specs.Run.{
   Run,
-  Tape,
   Shown,
   stopped,
   runTalk,
-  onTape,
   after,
   tapeOf,
   shown,
   shownOf,
+  runOn,
   runInto,
   bad,
   refusedRun,
@@ -38,8 +41,8 @@ use Rattle.conversation.specs.Run.{
 }
 use Rattle.conversation.specs.declared.conversation.Stop.the-variants.{Done, AfterEnd, BadReply, NoReply, NoRoom}
 use Rattle.conversation.specs.declared.conversation.Conversation as code
-use Rattle.conversation.specs.declared.operation.Operation.{Operation}
-use Rattle.conversation.specs.declared.operation.Place.{Place}
+use Rattle.started.specs.declared.operation.Operation.{Operation}
+use Rattle.started.specs.declared.operation.Place.{Place}
 use Rattle.conversation.specs.declared.run.Ran.{Ran}
 
 -- one more word is copied to the front of a block
@@ -86,11 +89,6 @@ module _ (c : Conv) (kind value : ℕ) {a : Action} {k : Reply → Talk Out} (e 
   pub step-done : {r : Reply} {to : Conv} → (uses a ≡ 0 → ⊥) → kind ≤ 1 → replyOf kind value ≡ r → to ≡ gone c a (k r) → record { stop = Done; to = to } ≡ stepTalk c kind value
   step-done h l er eto = rw (e, eto, ← er) (simp (ne-eqb _ _ h, le-ltb _ _ l))
 
-pub uses-two : (a : Action) → (uses a ≡ 0 → ⊥) → uses a ≡ 2
-uses-two (Read reg) h = refl
-uses-two (Write reg v) h = refl
-uses-two (Wait micros) h = absurd (h refl)
-
 -- the script's check, from a place on
 
 module _ (rs : List ℕ) (i : ℕ) where
@@ -115,37 +113,47 @@ module _ (rs : List ℕ) (i : ℕ) where
   pub bad-next : i + 2 ≤ length rs → getD rs i 0 ≤ 1 → bad (drop i rs) ≡ bad (drop (i + 2) rs)
   bad-next h k = rw (two h) (simp (le-ltb _ _ k))
 
--- a turn of the run
+-- how a run goes on, and where it stops
 
-module _ (c : Conv) (rs t : List ℕ) (at used : ℕ) where
-  pub run-ended : {r : Out} → c .talk ≡ end r → runInto c rs t at used ≡ shown (c .port) (tapeOf c t at used) (stopped (c .talk) Done)
-  unfolding runInto
-  run-ended e = rw e
+run-one : (p : Port) (rs : List ℕ) (t : Tape) (a : Action) (f : Reply → Talk Out) → 3 ≤ length (t .transcript) - t .at → uses a ≤ length rs - t .used
+    → runOn p (ask a f) rs t ≡ runOn p (f (replyFor a (drop (t .used) rs))) rs (onTape t a)
+unfolding runOn
+run-one p rs t a f h k =
+    let room : length (sets (t .transcript) (t .at) (words a)) - (t .at + 3) ≡ length (t .transcript) - t .at - 3 = simp length-sets (omega arith) in
+    simp (le-ltb _ _ h, length-drop, le-ltb _ _ k, drop-drop, room)
 
-  pub run-full : {a : Action} {k : Reply → Talk Out} → c .talk ≡ ask a k → length t - at < 3
-      → runInto c rs t at used ≡ shown (c .port) (tapeOf c t at used) (stopped (c .talk) NoRoom)
-  unfolding runInto
-  run-full e h = rw e (simp (lt-ltb _ _ h))
+run-moves : (p : Port) {rs : List ℕ} {m n : Talk Out} {t u : Tape} → Moves rs m t n u → runOn p n rs u ≡ runOn p m rs t
+run-moves p stays = refl
+run-moves p {rs} (goes {a} {k = f} {t = t} h k q) = run-moves p q ∙ sym (run-one p rs t a f h k)
 
-  pub run-dry : {a : Action} {k : Reply → Talk Out} → c .talk ≡ ask a k → 3 ≤ length t - at → length rs - used < uses a
-      → runInto c rs t at used ≡ shown (c .port) (tapeOf c t at used) (stopped (c .talk) NoReply)
-  unfolding runInto
-  run-dry e h k = rw e (simp (le-ltb _ _ h, length-drop, lt-ltb _ _ k))
+pub told-at : (p : Port) (b : List ℕ) {x y : Place} → x ≡ y → told p x b ≡ told p y b
+told-at p b e = ap (λ (x : Place). told p x b) e
 
-  run-next : {a : Action} {k : Reply → Talk Out} → c .talk ≡ ask a k → 3 ≤ length t - at → uses a ≤ length rs - used
-      → runInto c rs t at used
-      ≡ runInto (gone c a (k (replyFor a (drop used rs)))) rs (sets t at (words a)) (at + 3) (used + uses a)
-  unfolding runInto
-  run-next {a} e h k =
-      let room : length (sets t at (words a)) - (at + 3) ≡ length t - at - 3 = simp length-sets (omega arith) in
-      rw e (simp (le-ltb _ _ h, length-drop, le-ltb _ _ k, drop-drop, room))
+module _ (p : Port) {rs : List ℕ} {m₀ m : Talk Out} {t₀ t : Tape} (q : Moves rs m₀ t₀ m t) where
+  pub run-ended : {r : Out} → m ≡ end r → shown p t (stopped m Done) ≡ runOn p m₀ rs t₀
+  unfolding runOn
+  run-ended e =
+      let here : shown p t (stopped m Done) ≡ runOn p m rs t = rw e in
+      here ∙ run-moves p q
 
-  -- the same, of what the code's calls gave
-  pub run-turn : {a : Action} {k : Reply → Talk Out} {n : ℕ} {reply : Reply} {to : Conv} {t' : List ℕ}
-      → c .talk ≡ ask a k → uses a ≡ n → 3 ≤ length t - at → n ≤ length rs - used
-      → replyFor a (drop used rs) ≡ reply → t' ≡ sets t at (words a) → to ≡ gone c a (k reply)
-      → runInto c rs t at used ≡ runInto to rs t' (at + 3) (used + n)
-  run-turn {a} {k} e en h hn er et eto = run-next e h (rw (← en) at hn) ∙ cc
+  module _ {a : Action} {k : Reply → Talk Out} (e : m ≡ ask a k) where
+    pub run-full : length (t .transcript) - t .at < 3 → shown p t (stopped m NoRoom) ≡ runOn p m₀ rs t₀
+    unfolding runOn
+    run-full h =
+        let here : shown p t (stopped m NoRoom) ≡ runOn p m rs t = rw e (simp (lt-ltb _ _ h)) in
+        here ∙ run-moves p q
+
+    pub run-dry : 3 ≤ length (t .transcript) - t .at → length rs - t .used < uses a → shown p t (stopped m NoReply) ≡ runOn p m₀ rs t₀
+    unfolding runOn
+    run-dry h k' =
+        let here : shown p t (stopped m NoReply) ≡ runOn p m rs t = rw e (simp (le-ltb _ _ h, length-drop, lt-ltb _ _ k')) in
+        here ∙ run-moves p q
+
+-- one action of it, from what the code's calls gave
+pub one-moves : {rs t t' : List ℕ} {h h' : Host} {a : Action} {k : Reply → Talk Out} {m : Talk Out} {reply : Reply} → h .at + 3 ≤ length t → h .used + uses a ≤ length rs
+    → replyFor a (drop (h .used) rs) ≡ reply → tape h' t' ≡ onTape (tape h t) a → m ≡ k reply
+    → Moves rs (ask a k) (tape h t) m (tape h' t')
+one-moves room need er et em = told-as (sym em) (act-done (record { what = (omega arith, omega arith, er, et) }) refl stays)
 
 -- a run into the part of a transcript that starts at its write place
 
@@ -176,7 +184,7 @@ abbrev lifted : List ℕ → Shown → Shown
 lifted p s = record { stop = s .stop; port = s .port; talk = s .talk; tape = moved p (s .tape) }
 
 run-part : (c : Conv) (rs t : List ℕ) (at : ℕ) → at ≤ length t → runInto c rs t at 0 ≡ lifted (take at t) (runInto c rs (drop at t) 0 0)
-unfolding runInto
+unfolding runOn
 run-part c rs t at h =
     let room : length (drop at t) - 0 ≡ length t - at = simp length-drop (omega arith) in
     let run : Run Out = runTalk (c .talk) rs (length t - at) in
@@ -221,4 +229,4 @@ module _ (c : Conv) (rs t : List ℕ) (at : ℕ) where
     pub all-full : bad rs ≡ false → length t < at → refusedRun NoRoom c t at ≡ runAll c rs t at
     all-full b h =
         let room : length t - at < 3 = omega arith in
-        sym (run-full c rs t at 0 e room) ∙ all-run b
+        run-full (c .port) stays e room ∙ all-run b

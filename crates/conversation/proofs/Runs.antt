@@ -13,8 +13,9 @@ use Rattle.hardware.specs.Talk.{Talk, ask, end, pick}
 use Rattle.hardware.specs.declared.Action.{Action}
 use Rattle.hardware.specs.declared.Action.the-variants.{Read, Write, Wait}
 use Rattle.hardware.specs.declared.Reply.{Reply}
-use Rattle.conversation.specs.Act.{uses, words, replyOf, replyFor, usedBy, waitedBy, wordsOf}
-use Rattle.conversation.specs.Run.{Run, stopped, before, runTalk, joined, Tape, onTape, after}
+use Rattle.drive.specs.Act.{uses, words, replyOf, replyFor, usedBy, waitedBy, wordsOf}
+use Rattle.drive.specs.Moves.{Tape, onTape}
+use Rattle.conversation.specs.Run.{Run, stopped, before, runTalk, joined, after}
 use Rattle.conversation.specs.declared.conversation.Stop.{Stop}
 use Rattle.conversation.specs.declared.conversation.Stop.the-variants.{Done, NoRoom, NoReply}
 

@@ -15,13 +15,15 @@ use Rattle.hardware.specs.declared.Action.the-variants.{Read, Write, Wait}
 use Rattle.hardware.specs.declared.Port.{Port}
 use Rattle.hardware.specs.declared.Reply.{Reply}
 use Rattle.hardware.specs.declared.Reply.the-variants as reply
-use Rattle.conversation.specs.Act.{uses, words, replyOf, replyFor, usedBy, waitedBy, wordsOf}
+use Rattle.drive.specs.Act.{uses, words, replyOf, replyFor, usedBy, waitedBy, wordsOf}
 use Rattle.hardware.specs.Bound.{Ends, Within, at-end, at-ask}
-use Rattle.conversation.specs.Conversation.{Conv, Out, conv, begun, gone, stepOn, stepTalk}
-use Rattle.conversation.specs.Run.{Run, stopped, before, runTalk, joined, Tape, onTape, after, tapeOf, Shown, shown, left, runInto, bad, refusedRun, runFrom, runAll}
+use Rattle.conversation.specs.Conversation.{Conv, conv, begun, gone, stepOn, stepTalk}
+use Rattle.started.specs.Operation.{Out}
+use Rattle.drive.specs.Moves.{Tape, onTape}
+use Rattle.conversation.specs.Run.{Run, stopped, before, runTalk, joined, after, tapeOf, Shown, shown, left, runOn, runInto, bad, refusedRun, runFrom, runAll}
 use Rattle.conversation.specs.declared.conversation.Stop.{Stop}
 use Rattle.conversation.specs.declared.conversation.Stop.the-variants.{AfterEnd, BadReply, NoRoom, NoReply}
-use Rattle.conversation.specs.declared.operation.Operation.{Operation}
+use Rattle.started.specs.declared.operation.Operation.{Operation}
 use Rattle.conversation.proofs.Bounds.{short-begun}
 use Rattle.conversation.proofs.Laws.{all-run}
 use Rattle.conversation.proofs.Runs.{
@@ -59,7 +61,7 @@ module _ (c : Conv) (rs t : List ℕ) (at used : ℕ) where
   pub run-transcript : at ≤ length t
       → runInto c rs t at used .tape .transcript
       ≡ take at t ++ wordsOf (doneBy c rs t at used) ++ drop (at + 3 * length (doneBy c rs t at used)) t
-  unfolding runInto
+  unfolding runOn
   run-transcript h =
       let d : List Action = doneBy c rs t at used in
       let n : length (wordsOf d) ≡ 3 * length d = words-of-length d in
@@ -68,12 +70,12 @@ module _ (c : Conv) (rs t : List ℕ) (at used : ℕ) where
       transcript-after (tapeOf c t at used) d ∙ sets-eq (wordsOf d) t at inside ∙ rw n
 
   used-by : runInto c rs t at used .tape .used ≡ used + usedBy (doneBy c rs t at used)
-  unfolding runInto
+  unfolding runOn
   used-by = used-after (tapeOf c t at used) (doneBy c rs t at used)
 
   -- so the words that it wrote are those of the actions done
   pub written-words : slice at (runInto c rs t at used .tape .at) (runInto c rs t at used .tape .transcript) ≡ wordsOf (doneBy c rs t at used)
-  unfolding runInto
+  unfolding runOn
   written-words = rw (at-after (tapeOf c t at used) (doneBy c rs t at used), transcript-after (tapeOf c t at used) (doneBy c rs t at used))
       (go (doneBy c rs t at used) room)
     where
@@ -102,7 +104,7 @@ pub record Placed (s : Shown) (t : List ℕ) (at : ℕ) : Type 0 where
   pub same-length : length (s .tape .transcript) ≡ length t
 
 placed-run : (c : Conv) (rs t : List ℕ) (at used : ℕ) → Placed (runInto c rs t at used) t at
-unfolding runInto
+unfolding runOn
 placed-run c rs t at used =
     record {
       actions = length (doneBy c rs t at used);
@@ -138,7 +140,7 @@ onward n s = record { stop = s .stop; port = s .port; talk = s .talk; tape = use
 -- one run over the joined script is the run over its first part, and the run that goes on from where that stopped
 runs-on : (c : Conv) (rs more t : List ℕ) (at used : ℕ) → used ≤ length rs → (s : Shown) → s ≡ runInto c rs t at used
     → runInto c (rs ++ more) t at used ≡ runInto (left s) (rs ++ more) (s .tape .transcript) (s .tape .at) (s .tape .used)
-unfolding runInto
+unfolding runOn
 runs-on c rs more t at used h s e =
     let T : Tape = tapeOf c t at used in
     let r : Run Out = runTalk (c .talk) (drop used rs) (length t - at) in
@@ -167,7 +169,7 @@ after-used-more n t [] = refl
 after-used-more n t (a ∷ d) = rw (add-assoc n (t .used) (uses a)) (after-used-more n (onTape t a) d)
 
 from-rest : (c : Conv) (rs t : List ℕ) (at used : ℕ) → runInto c rs t at used ≡ onward used (runInto c (drop used rs) t at 0)
-unfolding runInto
+unfolding runOn
 from-rest c rs t at used = rw (← after-used-more used (tapeOf c t at 0) (doneBy c rs t at used), add-zero used)
 
 -- a script's check, of a script that is read on
@@ -240,7 +242,7 @@ module _ (c : Conv) (rs more t₁ t₂ t : List ℕ) (at₁ at₂ at : ℕ) wher
   pub another-buffer : length t - at ≡ 3 * length (doneBy c rs t₁ at₁ 0) + (length t₂ - at₂)
       → Together (runInto c (rs ++ more) t at 0) (runInto c rs t₁ at₁ 0)
       (runInto (left (runInto c rs t₁ at₁ 0)) (rs ++ more) t₂ at₂ (runInto c rs t₁ at₁ 0 .tape .used)) at at₁ at₂
-  unfolding runInto
+  unfolding runOn
   another-buffer room =
       let s : Shown = runInto c rs t₁ at₁ 0 in
       let r : Run Out = runTalk (c .talk) rs (length t₁ - at₁) in
@@ -289,7 +291,7 @@ within-run {t = ask b k} {n = n} {m = m} (at-ask {a = a} {k = k'} {n = n₀} {m 
 pub counts-exact : (port : Port) (what : Operation) (ws rs t : List ℕ) (at : ℕ)
     → (runInto (begun port what ws) rs t at 0 .tape .actions ≡ length (doneBy (begun port what ws) rs t at 0))
     × (runInto (begun port what ws) rs t at 0 .tape .micros ≡ waitedBy (doneBy (begun port what ws) rs t at 0))
-unfolding runInto
+unfolding runOn
 counts-exact port what ws rs t at =
     let c : Conv = begun port what ws in
     let d : List Action = doneBy c rs t at 0 in
@@ -326,7 +328,7 @@ module _ (c : Conv) (kind value : ℕ) (t : List ℕ) (at : ℕ) (k : Reply → 
 
   pub step-is-run : {a : Action} → c .talk ≡ ask a k → (uses a ≡ 2 → kind ≤ 1) → length t - at ≡ 3
       → stepTalk c kind value .to ≡ left (runInto c (kind ∷ value ∷ []) t at 0)
-  unfolding runInto
+  unfolding runOn
   step-is-run {a} e h room =
       ap (λ (x : Talk Out). stepOn x c kind value .to) e
       ∙ step-one a h

@@ -10,11 +10,14 @@ use Rattle.hardware.specs.Talk.{Talk, ask, end, pick}
 use Rattle.hardware.specs.declared.Action.{Action}
 use Rattle.hardware.specs.declared.Reply.{Reply}
 use Rattle.hardware.specs.declared.Port.{Port}
-use Rattle.conversation.specs.Act.{uses, words, replyFor}
-use Rattle.conversation.specs.Conversation.{Conv, Out, convOf}
+use Rattle.drive.specs.Act.{uses, replyFor}
+use Rattle.drive.specs.Moves.{Tape, onTape, tape}
+use Rattle.conversation.specs.Conversation.{Conv, convOf}
+use Rattle.started.specs.Operation.{Out, told}
 use Rattle.conversation.specs.declared.conversation.Stop.{Stop}
 use Rattle.conversation.specs.declared.conversation.Stop.the-variants.{Done, AfterEnd, BadReply, NoReply, NoRoom}
 use Rattle.conversation.specs.declared.run.Ran.{Ran}
+use Rattle.conversation.specs.declared.run.Reached.{Reached}
 
 -- a run: the actions that were done, in order, what is still to be said, and why it stopped
 pub record Run (A : Type 0) : Type 0 where
@@ -44,24 +47,7 @@ runTalk (ask a k) rs room = turn a (ask a k) rs room (λ r. runTalk (k r) (drop 
 abbrev pub joined : {A : Type 0} → Run A → Run A → Run A
 joined r s = record { done = r .done ++ s .done; talk = s .talk; stop = s .stop }
 
--- what a run leaves behind: the counts, the transcript, its next place, and the reply words used
-pub record Tape : Type 0 where
-  pub actions : ℕ
-  pub micros : ℕ
-  pub transcript : List ℕ
-  pub at : ℕ
-  pub used : ℕ
-
-abbrev pub onTape : Tape → Action → Tape
-onTape t a =
-    record {
-      actions = (t .actions + 1) % 2 ^ 64;
-      micros = (t .micros + waited a) % 2 ^ 64;
-      transcript = sets (t .transcript) (t .at) (words a);
-      at = t .at + 3;
-      used = t .used + uses a;
-    }
-
+-- what a run leaves behind on its tape
 abbrev pub after : Tape → List Action → Tape
 after t [] = t
 after t (a ∷ rest) = after (onTape t a) rest
@@ -93,9 +79,22 @@ shownOf r t =
       tape = tapeOf (convOf (r .to)) t (r .at) (r .used);
     }
 
+abbrev pub reachedOf : Port → Reached → List ℕ → List ℕ → Shown
+reachedOf p r b t =
+    record {
+      stop = r .stop;
+      port = p;
+      talk = told p (r .ran .place) b;
+      tape = tape (r .ran .host) t;
+    }
+
+-- a talk's run, from a tape on: over what is left of the script, with the room that is left
+unfoldable pub runOn : Port → Talk Out → List ℕ → Tape → Shown
+runOn p m rs t = shown p t (runTalk m (drop (t .used) rs) (length (t .transcript) - t .at))
+
 -- a conversation's run from a place of the script, into a transcript from a place of it
-unfoldable pub runInto : Conv → List ℕ → List ℕ → ℕ → ℕ → Shown
-runInto c rs t at used = shown (c .port) (tapeOf c t at used) (runTalk (c .talk) (drop used rs) (length t - at))
+abbrev pub runInto : Conv → List ℕ → List ℕ → ℕ → ℕ → Shown
+runInto c rs t at used = runOn (c .port) (c .talk) rs (tapeOf c t at used)
 
 -- an odd length, or a kind above 1
 abbrev pub bad : List ℕ → Bool

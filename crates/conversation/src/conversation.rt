@@ -1,18 +1,18 @@
 // A conversation by value: begin, and one step.
-use crate::action::reply_of;
-use crate::action::uses_of;
-use crate::action::waited_of;
-use crate::operation::Op;
-use crate::operation::Operation;
-use crate::operation::Place;
-use crate::start::start;
 use answers::Answer;
 use answers::Value;
+use drive::reply_of;
+use drive::uses_of;
+use drive::waited_of;
 use hardware::Action;
 use hardware::Error;
 use hardware::Port;
 use hardware::Reply;
 use hardware::Unit;
+use started::operation::Op;
+use started::operation::Operation;
+use started::operation::Place;
+use started::start::start;
 use watch::store::Left;
 use watch::store::Watch;
 ghost use mathlib.Core.Path.{_≡_};
@@ -21,7 +21,8 @@ ghost use mathlib.Core.List.{[]};
 ghost use lib.ListN.{length, take};
 ghost use Rattle.hardware.specs.Told.{unitOf};
 ghost use Rattle.hardware.specs.Talk.{end, err};
-ghost use Rattle.conversation.specs.Conversation.{resumeOp, convOf, gone, opening, padded, begun, number, steppedOf, stepTalk, given, handedBack, leftBy, leftOf, ownOf};
+ghost use Rattle.conversation.specs.Conversation.{convOf, gone, opening, padded, begun, number, steppedOf, stepTalk, given, handedBack, leftBy, leftOf, ownOf};
+ghost use Rattle.started.specs.Operation.{resumeOp};
 
 // The whole state of a conversation.
 pub struct Conversation {

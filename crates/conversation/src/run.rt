@@ -1,23 +1,24 @@
 // A run over a script of replies, into a transcript.
-use crate::action::kind_of;
-use crate::action::register_of;
-use crate::action::reply_of;
-use crate::action::uses_of;
-use crate::action::value_of;
 use crate::conversation::Conversation;
 use crate::conversation::Stop;
-use crate::operation::Place;
+use drive::Host;
+use drive::reply_at;
+use drive::uses_of;
+use drive::waited_of;
+use drive::write_down;
 use hardware::Action;
-use hardware::Reply;
-use script::Pair;
-use script::read_pair;
+use hardware::Port;
+use started::operation::Op;
+use started::operation::OpRan;
+use started::operation::Place;
 ghost use mathlib.Core.Path.{_≡_};
 ghost use Prim.Native.Nat.{_+_, _≤_};
-ghost use lib.ListN.{length, drop};
-ghost use lib.Seq.{sets};
-ghost use Rattle.conversation.specs.Act.{uses, words, replyFor};
+ghost use lib.ListN.{length};
+ghost use Rattle.drive.specs.Act.{uses};
+ghost use Rattle.drive.specs.Moves.{tape, Moves};
+ghost use Rattle.started.specs.Operation.{told};
 ghost use Rattle.conversation.specs.Conversation.{convOf};
-ghost use Rattle.conversation.specs.Run.{shownOf, runInto, bad, runAll};
+ghost use Rattle.conversation.specs.Run.{shownOf, reachedOf, runOn, runInto, bad, runAll};
 
 // What a run answers: why it stopped, the conversation, the next write place in the transcript, and how many reply words
 // it used. A caller stopped by 26 or 27 goes on from these.
@@ -28,75 +29,113 @@ pub struct Ran {
     pub used: usize,
 }
 
-// An action's three words, at a place of the transcript.
-fn write_down(t: &mut [u32], at: usize, a: Action)
-    requires { ⌜ at + 3 ≤ length (now t) ⌝ }
-    ensures { λ _. ⌜ now (t .exit) ≡ sets (now (t .entry)) at (words a) ⌝ }
-{
-    t[at] = kind_of(a);
-    t[at + 1] = register_of(a);
-    t[at + 2] = value_of(a);
+// Where a run has stopped.
+struct Reached {
+    stop: Stop,
+    ran: OpRan,
 }
 
-// What an action is answered at a place of the script.
-fn reply_at(a: Action, replies: &[u32], used: usize) -> Reply
-    requires { ⌜ used + uses a ≤ length (now replies) ⌝ }
-    ensures { λ r. ⌜ replyFor a (drop used (now (replies .entry))) ≡ r ⌝ }
+// One action by itself.
+fn single(
+    op: Op,
+    a: Action,
+    port: Port,
+    block: &mut [u32; 16],
+    h: Host,
+    replies: &[u32],
+    t: &mut [u32],
+) -> OpRan
+    requires { ⌜ h .at + 3 ≤ length (now t) ⌝ }
+    requires { ⌜ h .used + uses a ≤ length (now replies) ⌝ }
+    ensures { λ r. ⌜ Moves (now (replies .entry)) (told port (Place.Asks a op) (now (block .entry))) (tape h (now (t .entry))) (told port (r .place) (now (block .exit))) (tape (r .host) (now (t .exit))) ⌝ }
+    ensures { λ r. ⌜ r .host .at ≡ h .at + 3 ⌝ }
 {
-    if uses_of(a) == 0 {
-        return Reply::Done(0);
-    }
-    match read_pair(replies, used) {
-        Pair::Is(kind, value) => reply_of(kind, value),
-        // excluded above
-        Pair::Nothing => Reply::Done(0),
+    let reply = reply_at(a, replies, h.used);
+    write_down(t, h.at, a);
+    let place = op.next(port, block, reply);
+    let host = Host {
+        used: h.used + uses_of(a),
+        at: h.at + 3,
+        actions: std::num::wrapping_add_u64(h.actions, 1),
+        micros: std::num::wrapping_add_u64(h.micros, waited_of(a)),
+    };
+    OpRan { host, place }
+}
+
+// The run's loop: as far as an access goes by itself, then one action.
+fn run_from(
+    from: OpRan,
+    port: Port,
+    block: &mut [u32; 16],
+    replies: &[u32],
+    t: &mut [u32],
+) -> Reached
+    requires { ⌜ from .host .at ≤ length (now t) ⌝ }
+    requires { ⌜ from .host .used ≤ length (now replies) ⌝ }
+    ensures { λ r. ⌜ reachedOf port r (now (block .exit)) (now (t .exit)) ≡ runOn port (told port (from .place) (now (block .entry))) (now (replies .entry)) (tape (from .host) (now (t .entry))) ⌝ }
+    ensures { λ r. ⌜ r .ran .host .at ≤ length (now (t .entry)) ⌝ }
+{
+    let mut ran = from;
+    loop {
+        ran = ran.ahead(port, block, replies, t);
+        let h = ran.host;
+        let place = ran.place;
+        match place {
+            Place::Ended(_, _) => {
+                return Reached {
+                    stop: Stop::Done,
+                    ran,
+                };
+            }
+            Place::Asks(a, op) => {
+                if t.len() - h.at < 3 {
+                    return Reached {
+                        stop: Stop::NoRoom,
+                        ran,
+                    };
+                }
+                if replies.len() - h.used < uses_of(a) {
+                    return Reached {
+                        stop: Stop::NoReply,
+                        ran,
+                    };
+                }
+                ran = single(op, a, port, block, h, replies, t);
+            }
+        }
     }
 }
 
-// The run's loop, over the transcript from its write place on.
+// Over the transcript from its write place on.
 fn run_on(c: Conversation, replies: &[u32], t: &mut [u32]) -> Ran
     ensures { λ r. ⌜ shownOf r (now (t .exit)) ≡ runInto (convOf c) (now (replies .entry)) (now (t .entry)) 0 0 ⌝ }
     ensures { λ r. ⌜ r .at ≤ length (now (t .entry)) ⌝ }
 {
-    let mut to = c;
-    let mut used: usize = 0;
-    let mut at: usize = 0;
-    loop {
-        let place = to.place;
-        match place {
-            Place::Ended(_, _) => {
-                return Ran {
-                    stop: Stop::Done,
-                    to,
-                    at,
-                    used,
-                };
-            }
-            Place::Asks(a, op) => {
-                if t.len() - at < 3 {
-                    return Ran {
-                        stop: Stop::NoRoom,
-                        to,
-                        at,
-                        used,
-                    };
-                }
-                let need = uses_of(a);
-                if replies.len() - used < need {
-                    return Ran {
-                        stop: Stop::NoReply,
-                        to,
-                        at,
-                        used,
-                    };
-                }
-                let reply = reply_at(a, replies, used);
-                write_down(t, at, a);
-                at += 3;
-                used += need;
-                to = to.answered(a, op, reply);
-            }
-        }
+    let port = c.port;
+    let place = c.place;
+    let mut block = c.block;
+    let host = Host {
+        used: 0,
+        at: 0,
+        actions: c.actions,
+        micros: c.micros,
+    };
+    let r = run_from(OpRan { host, place }, port, &mut block, replies, t);
+    let stop = r.stop;
+    let ran = r.ran;
+    let end = ran.host;
+    let place = ran.place;
+    Ran {
+        stop,
+        to: Conversation {
+            port,
+            place,
+            block,
+            actions: end.actions,
+            micros: end.micros,
+        },
+        at: end.at,
+        used: end.used,
     }
 }
 

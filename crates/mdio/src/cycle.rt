@@ -1,10 +1,14 @@
 // mdio.rs's `cycle`: a command is written to MSCA, which is then polled until the command is done.
+use drive::Acted;
+use drive::Host;
+use drive::act;
 use hardware::Action;
 use hardware::Error;
 use hardware::Reply;
 use hardware::Unit;
 use hardware::Word;
 use words::mdio::Command;
+ghost use Rattle.drive.specs.Moves.{tape, Moves};
 ghost use mathlib.Core.Path.{_≡_};
 ghost use Rattle.reference.specs.Mdio.{cycle, cycleTimes};
 ghost use Rattle.mdio.specs.Cycle.{resumeCycle, toldCycle};
@@ -19,6 +23,11 @@ pub enum Cycle {
 pub enum CycleStep {
     Ask(Action, Cycle),
     Done(Unit),
+}
+
+pub struct CycleRan {
+    pub host: Host,
+    pub step: CycleStep,
 }
 
 impl Cycle {
@@ -67,6 +76,40 @@ impl Cycle {
                     }
                 }
             },
+        }
+    }
+
+    // Over a script, as far as it goes.
+    pub fn run(self, first: Action, host: Host, replies: &[u32], t: &mut [u32]) -> CycleRan
+        ensures { λ r. ⌜ Moves (now (replies .entry)) (toldCycle (CycleStep.Ask first self)) (tape host (now (t .entry))) (toldCycle (r .step)) (tape (r .host) (now (t .exit))) ⌝ }
+    {
+        let mut s = self;
+        let mut a = first;
+        let mut h = host;
+        loop {
+            match act(h, a, replies, t) {
+                Acted::Short => {
+                    return CycleRan {
+                        host: h,
+                        step: CycleStep::Ask(a, s),
+                    };
+                }
+                Acted::Is(next, reply) => {
+                    h = next;
+                    match s.next(reply) {
+                        CycleStep::Ask(b, n) => {
+                            a = b;
+                            s = n;
+                        }
+                        CycleStep::Done(r) => {
+                            return CycleRan {
+                                host: h,
+                                step: CycleStep::Done(r),
+                            };
+                        }
+                    }
+                }
+            }
         }
     }
 }

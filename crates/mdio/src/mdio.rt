@@ -1,11 +1,15 @@
 // The closures of mdio.rs's `read_reg` and `write_reg`: an address cycle, then the operation's.
 use crate::cycle::Cycle;
 use crate::cycle::CycleStep;
+use drive::Acted;
+use drive::Host;
+use drive::act;
 use hardware::Action;
 use hardware::Reply;
 use hardware::Unit;
 use hardware::Word;
 use words::mdio::Command;
+ghost use Rattle.drive.specs.Moves.{tape, Moves};
 ghost use mathlib.Core.Path.{_≡_};
 ghost use Rattle.mdio.specs.Cycle.{toldCycle};
 ghost use Rattle.mdio.specs.Mdio.{
@@ -65,6 +69,11 @@ impl Wanted {
             Wanted::Write(a, _) => a | Command::OP_WRITE,
         }
     }
+}
+
+pub struct MdioRan {
+    pub host: Host,
+    pub step: MdioStep,
 }
 
 impl Mdio {
@@ -131,6 +140,78 @@ impl Mdio {
                 Word::Err(e) => MdioStep::Done(Word::Err(e)),
                 Word::Ok(v) => MdioStep::Done(Word::Ok(v >> 16)),
             },
+        }
+    }
+
+    // Over a script: one action, or as much as a machine inside takes.
+    fn once(self, a: Action, wanted: Wanted, h: Host, replies: &[u32], t: &mut [u32]) -> MdioRan
+        ensures { λ r. ⌜ Moves (now (replies .entry)) (toldMdio wanted (MdioStep.Ask a self)) (tape h (now (t .entry))) (toldMdio wanted (r .step)) (tape (r .host) (now (t .exit))) ⌝ }
+    {
+        if let Mdio::Cycling(place, s) = self {
+            let r = s.run(a, h, replies, t);
+            let host = r.host;
+            let step = r.step;
+            return MdioRan {
+                host,
+                step: Mdio::cycled(wanted, place, step),
+            };
+        }
+        Mdio::single(self, a, wanted, h, replies, t)
+    }
+
+    fn single(
+        s: Mdio,
+        a: Action,
+        wanted: Wanted,
+        h: Host,
+        replies: &[u32],
+        t: &mut [u32],
+    ) -> MdioRan
+        ensures { λ r. ⌜ Moves (now (replies .entry)) (toldMdio wanted (MdioStep.Ask a s)) (tape h (now (t .entry))) (toldMdio wanted (r .step)) (tape (r .host) (now (t .exit))) ⌝ }
+    {
+        match act(h, a, replies, t) {
+            Acted::Short => MdioRan {
+                host: h,
+                step: MdioStep::Ask(a, s),
+            },
+            Acted::Is(host, reply) => MdioRan {
+                host,
+                step: s.next(wanted, reply),
+            },
+        }
+    }
+
+    // Over a script, as far as it goes.
+    pub fn run(
+        self,
+        first: Action,
+        wanted: Wanted,
+        host: Host,
+        replies: &[u32],
+        t: &mut [u32],
+    ) -> MdioRan
+        ensures { λ r. ⌜ Moves (now (replies .entry)) (toldMdio wanted (MdioStep.Ask first self)) (tape host (now (t .entry))) (toldMdio wanted (r .step)) (tape (r .host) (now (t .exit))) ⌝ }
+    {
+        let mut s = self;
+        let mut a = first;
+        let mut h = host;
+        loop {
+            let r = s.once(a, wanted, h, replies, t);
+            let next = r.host;
+            let step = r.step;
+            if next.at == h.at {
+                return r;
+            }
+            h = next;
+            match step {
+                MdioStep::Done(_) => {
+                    return r;
+                }
+                MdioStep::Ask(b, n) => {
+                    a = b;
+                    s = n;
+                }
+            }
         }
     }
 }

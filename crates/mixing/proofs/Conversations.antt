@@ -18,9 +18,10 @@ use Rattle.hardware.specs.declared.Reply.the-variants as reply
 use Rattle.hardware.proofs.Refusal as refused
 use Rattle.reference.specs.Bounds.{blockOf}
 use Rattle.reference.specs.Operations.{Out, operation}
-use Rattle.conversation.specs.Conversation.{Conv, opening, started, phyOf, deviceOf, opOf, stepOn, stepTalk}
-use Rattle.conversation.specs.declared.operation.Operation.{Operation}
-use Rattle.conversation.specs.declared.operation.Operation.the-variants as operationv
+use Rattle.conversation.specs.Conversation.{Conv, opening, started, stepOn, stepTalk}
+use Rattle.started.specs.Operation.{phyOf, deviceOf, opOf}
+use Rattle.started.specs.declared.operation.Operation.{Operation}
+use Rattle.started.specs.declared.operation.Operation.the-variants as operationv
 use Rattle.mixing.specs.Conversations.{
   Asked,
   Real,

@@ -1,4 +1,7 @@
 // x552.rs's `iosf_idle`: CTRL is read until it is not busy. All ones is busy, so the reads are raw.
+use drive::Acted;
+use drive::Host;
+use drive::act;
 use hardware::Action;
 use hardware::Error;
 use hardware::Reply;
@@ -6,6 +9,7 @@ use hardware::Word;
 ghost use mathlib.Core.Path.{_≡_};
 ghost use Rattle.reference.specs.X552.{iosfIdle, iosfTimes};
 ghost use Rattle.sideband.specs.Idle.{resumeIdle, toldIdle};
+ghost use Rattle.drive.specs.Moves.{tape, Moves};
 
 pub enum Idle {
     // reads left after this one
@@ -18,6 +22,12 @@ pub enum Idle {
 pub enum IdleStep {
     Ask(Action, Idle),
     Done(Word),
+}
+
+// Ask: the script or the transcript has come to its end
+pub struct IdleRan {
+    pub host: Host,
+    pub step: IdleStep,
 }
 
 impl Idle {
@@ -64,6 +74,47 @@ impl Idle {
                 }
             },
             Idle::Waiting(left, last) => Idle::again(pause, left, last),
+        }
+    }
+
+    // Over a script, as far as it goes.
+    pub fn run(
+        self,
+        first: Action,
+        pause: u32,
+        host: Host,
+        replies: &[u32],
+        t: &mut [u32],
+    ) -> IdleRan
+        ensures { λ r. ⌜ Moves (now (replies .entry)) (toldIdle pause (IdleStep.Ask first self)) (tape host (now (t .entry))) (toldIdle pause (r .step)) (tape (r .host) (now (t .exit))) ⌝ }
+    {
+        let mut s = self;
+        let mut a = first;
+        let mut h = host;
+        loop {
+            match act(h, a, replies, t) {
+                Acted::Short => {
+                    return IdleRan {
+                        host: h,
+                        step: IdleStep::Ask(a, s),
+                    };
+                }
+                Acted::Is(next, reply) => {
+                    h = next;
+                    match s.next(pause, reply) {
+                        IdleStep::Ask(b, n) => {
+                            a = b;
+                            s = n;
+                        }
+                        IdleStep::Done(r) => {
+                            return IdleRan {
+                                host: h,
+                                step: IdleStep::Done(r),
+                            };
+                        }
+                    }
+                }
+            }
         }
     }
 }

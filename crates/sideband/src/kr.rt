@@ -1,6 +1,9 @@
 // The closures of x552.rs's `kr_read` and `kr_write`. CTRL selects the register; then a read waits before DATA, a write after it.
 use crate::idle::Idle;
 use crate::idle::IdleStep;
+use drive::Acted;
+use drive::Host;
+use drive::act;
 use hardware::Action;
 use hardware::Error;
 use hardware::Reply;
@@ -10,6 +13,7 @@ ghost use mathlib.Core.Path.{_≡_};
 ghost use Rattle.hardware.specs.Told.{unitOf};
 ghost use Rattle.reference.specs.X552.{iosfCheck};
 ghost use Rattle.sideband.specs.Idle.{toldIdle};
+ghost use Rattle.drive.specs.Moves.{tape, Moves};
 ghost use Rattle.sideband.specs.Kr.{krAddress, krBody, krRest, krChecked, krSelected, krFirst, krData, resumeKr, toldKr};
 
 // What is asked of the KR PHY.
@@ -44,6 +48,11 @@ impl KrWanted {
             KrWanted::Write(address, _) => address,
         }
     }
+}
+
+pub struct KrRan {
+    pub host: Host,
+    pub step: KrStep,
 }
 
 impl Kr {
@@ -135,6 +144,100 @@ impl Kr {
             Kr::Select => Kr::selected(pause, wanted, reply.done()),
             Kr::Second(s) => Kr::second(pause, wanted, s.next(pause, reply)),
             Kr::Data => Kr::data(pause, wanted, reply),
+        }
+    }
+
+    // Over a script, one action or one wait's.
+    fn once(
+        self,
+        a: Action,
+        pause: u32,
+        wanted: KrWanted,
+        h: Host,
+        replies: &[u32],
+        t: &mut [u32],
+    ) -> KrRan
+        ensures { λ r. ⌜ Moves (now (replies .entry)) (toldKr pause wanted (KrStep.Ask a self)) (tape h (now (t .entry))) (toldKr pause wanted (r .step)) (tape (r .host) (now (t .exit))) ⌝ }
+    {
+        match self {
+            Kr::First(s) => {
+                let r = s.run(a, pause, h, replies, t);
+                let host = r.host;
+                let step = r.step;
+                KrRan {
+                    host,
+                    step: Kr::first(pause, wanted, step),
+                }
+            }
+            Kr::Second(s) => {
+                let r = s.run(a, pause, h, replies, t);
+                let host = r.host;
+                let step = r.step;
+                KrRan {
+                    host,
+                    step: Kr::second(pause, wanted, step),
+                }
+            }
+            Kr::Select => Kr::single(Kr::Select, a, pause, wanted, h, replies, t),
+            Kr::Data => Kr::single(Kr::Data, a, pause, wanted, h, replies, t),
+        }
+    }
+
+    fn single(
+        s: Kr,
+        a: Action,
+        pause: u32,
+        wanted: KrWanted,
+        h: Host,
+        replies: &[u32],
+        t: &mut [u32],
+    ) -> KrRan
+        ensures { λ r. ⌜ Moves (now (replies .entry)) (toldKr pause wanted (KrStep.Ask a s)) (tape h (now (t .entry))) (toldKr pause wanted (r .step)) (tape (r .host) (now (t .exit))) ⌝ }
+    {
+        match act(h, a, replies, t) {
+            Acted::Short => KrRan {
+                host: h,
+                step: KrStep::Ask(a, s),
+            },
+            Acted::Is(host, reply) => KrRan {
+                host,
+                step: s.next(pause, wanted, reply),
+            },
+        }
+    }
+
+    // Over a script, as far as it goes.
+    pub fn run(
+        self,
+        first: Action,
+        pause: u32,
+        wanted: KrWanted,
+        host: Host,
+        replies: &[u32],
+        t: &mut [u32],
+    ) -> KrRan
+        ensures { λ r. ⌜ Moves (now (replies .entry)) (toldKr pause wanted (KrStep.Ask first self)) (tape host (now (t .entry))) (toldKr pause wanted (r .step)) (tape (r .host) (now (t .exit))) ⌝ }
+    {
+        let mut s = self;
+        let mut a = first;
+        let mut h = host;
+        loop {
+            let r = s.once(a, pause, wanted, h, replies, t);
+            let next = r.host;
+            let step = r.step;
+            if next.at == h.at {
+                return r;
+            }
+            h = next;
+            match step {
+                KrStep::Done(_) => {
+                    return r;
+                }
+                KrStep::Ask(b, n) => {
+                    a = b;
+                    s = n;
+                }
+            }
         }
     }
 }

@@ -5,6 +5,9 @@ use crate::lock::Lock;
 use crate::lock::LockStep;
 use crate::lock::Unlock;
 use crate::lock::UnlockStep;
+use drive::Acted;
+use drive::Host;
+use drive::act;
 use hardware::Action;
 use hardware::Error;
 use hardware::Port;
@@ -13,6 +16,7 @@ use hardware::Reply;
 use hardware::Unit;
 use hardware::Word;
 use words::semaphore::Bits;
+ghost use Rattle.drive.specs.Moves.{tape, Moves};
 ghost use mathlib.Core.Path.{_≡_};
 ghost use mathlib.Core.Bool.{true, false};
 ghost use Rattle.hardware.specs.Told.{wordOf, unitOf};
@@ -102,6 +106,11 @@ pub enum AcquireBits {
 pub enum AcquireBitsStep {
     Ask(Action, AcquireBits),
     Done(Unit),
+}
+
+pub struct AcquireBitsRan {
+    pub host: Host,
+    pub step: AcquireBitsStep,
 }
 
 impl AcquireBits {
@@ -252,6 +261,109 @@ impl AcquireBits {
             ),
         }
     }
+
+    // Over a script: one action, or as much as a machine inside takes.
+    fn once(
+        self,
+        a: Action,
+        regs: Regs,
+        want: Bits,
+        mux: bool,
+        h: Host,
+        replies: &[u32],
+        t: &mut [u32],
+    ) -> AcquireBitsRan
+        ensures { λ r. ⌜ Moves (now (replies .entry)) (toldAcquire regs want mux (AcquireBitsStep.Ask a self)) (tape h (now (t .entry))) (toldAcquire regs want mux (r .step)) (tape (r .host) (now (t .exit))) ⌝ }
+    {
+        if let AcquireBits::Locking(left, s) = self {
+            let r = s.run(a, regs, h, replies, t);
+            let host = r.host;
+            let step = r.step;
+            return AcquireBitsRan {
+                host,
+                step: AcquireBits::after_lock(regs, want, mux, left, step),
+            };
+        }
+        if let AcquireBits::Ending(result, s) = self {
+            let r = s.run(a, regs, h, replies, t);
+            let host = r.host;
+            let step = r.step;
+            return AcquireBitsRan {
+                host,
+                step: AcquireBits::ending(regs, want, mux, result, step),
+            };
+        }
+        if let AcquireBits::Held(left, held, s) = self {
+            let r = s.run(a, regs, h, replies, t);
+            let host = r.host;
+            let step = r.step;
+            return AcquireBitsRan {
+                host,
+                step: AcquireBits::held(regs, want, mux, left, held, step),
+            };
+        }
+        AcquireBits::single(self, a, regs, want, mux, h, replies, t)
+    }
+
+    fn single(
+        s: AcquireBits,
+        a: Action,
+        regs: Regs,
+        want: Bits,
+        mux: bool,
+        h: Host,
+        replies: &[u32],
+        t: &mut [u32],
+    ) -> AcquireBitsRan
+        ensures { λ r. ⌜ Moves (now (replies .entry)) (toldAcquire regs want mux (AcquireBitsStep.Ask a s)) (tape h (now (t .entry))) (toldAcquire regs want mux (r .step)) (tape (r .host) (now (t .exit))) ⌝ }
+    {
+        match act(h, a, replies, t) {
+            Acted::Short => AcquireBitsRan {
+                host: h,
+                step: AcquireBitsStep::Ask(a, s),
+            },
+            Acted::Is(host, reply) => AcquireBitsRan {
+                host,
+                step: s.next(regs, want, mux, reply),
+            },
+        }
+    }
+
+    // Over a script, as far as it goes.
+    pub fn run(
+        self,
+        first: Action,
+        regs: Regs,
+        want: Bits,
+        mux: bool,
+        host: Host,
+        replies: &[u32],
+        t: &mut [u32],
+    ) -> AcquireBitsRan
+        ensures { λ r. ⌜ Moves (now (replies .entry)) (toldAcquire regs want mux (AcquireBitsStep.Ask first self)) (tape host (now (t .entry))) (toldAcquire regs want mux (r .step)) (tape (r .host) (now (t .exit))) ⌝ }
+    {
+        let mut s = self;
+        let mut a = first;
+        let mut h = host;
+        loop {
+            let r = s.once(a, regs, want, mux, h, replies, t);
+            let next = r.host;
+            let step = r.step;
+            if next.at == h.at {
+                return r;
+            }
+            h = next;
+            match step {
+                AcquireBitsStep::Done(_) => {
+                    return r;
+                }
+                AcquireBitsStep::Ask(b, n) => {
+                    a = b;
+                    s = n;
+                }
+            }
+        }
+    }
 }
 
 // release_bits
@@ -270,6 +382,11 @@ pub enum ReleaseBitsStep {
 }
 
 // `sw` are the bits to clear, `micros` the wait after them.
+pub struct ReleaseBitsRan {
+    pub host: Host,
+    pub step: ReleaseBitsStep,
+}
+
 impl ReleaseBits {
     fn after_mux(regs: Regs, sw: u32, micros: u32, step: SetMuxStep) -> ReleaseBitsStep
         ensures { λ r. ⌜ toldRelease regs sw micros r ≡ releaseAfterMux regs sw micros (toldMux false step) ⌝ }
@@ -377,6 +494,100 @@ impl ReleaseBits {
                 s.next(regs, reply),
             ),
             ReleaseBits::Waiting => ReleaseBitsStep::Done(Unit::Ok),
+        }
+    }
+
+    // Over a script: one action, or as much as a machine inside takes.
+    fn once(
+        self,
+        a: Action,
+        regs: Regs,
+        sw: u32,
+        micros: u32,
+        h: Host,
+        replies: &[u32],
+        t: &mut [u32],
+    ) -> ReleaseBitsRan
+        ensures { λ r. ⌜ Moves (now (replies .entry)) (toldRelease regs sw micros (ReleaseBitsStep.Ask a self)) (tape h (now (t .entry))) (toldRelease regs sw micros (r .step)) (tape (r .host) (now (t .exit))) ⌝ }
+    {
+        if let ReleaseBits::Locking(s) = self {
+            let r = s.run(a, regs, h, replies, t);
+            let host = r.host;
+            let step = r.step;
+            return ReleaseBitsRan {
+                host,
+                step: ReleaseBits::after_lock(regs, sw, micros, step),
+            };
+        }
+        if let ReleaseBits::Unlocking(cleared, s) = self {
+            let r = s.run(a, regs, h, replies, t);
+            let host = r.host;
+            let step = r.step;
+            return ReleaseBitsRan {
+                host,
+                step: ReleaseBits::after_unlock(regs, sw, micros, cleared, step),
+            };
+        }
+        ReleaseBits::single(self, a, regs, sw, micros, h, replies, t)
+    }
+
+    fn single(
+        s: ReleaseBits,
+        a: Action,
+        regs: Regs,
+        sw: u32,
+        micros: u32,
+        h: Host,
+        replies: &[u32],
+        t: &mut [u32],
+    ) -> ReleaseBitsRan
+        ensures { λ r. ⌜ Moves (now (replies .entry)) (toldRelease regs sw micros (ReleaseBitsStep.Ask a s)) (tape h (now (t .entry))) (toldRelease regs sw micros (r .step)) (tape (r .host) (now (t .exit))) ⌝ }
+    {
+        match act(h, a, replies, t) {
+            Acted::Short => ReleaseBitsRan {
+                host: h,
+                step: ReleaseBitsStep::Ask(a, s),
+            },
+            Acted::Is(host, reply) => ReleaseBitsRan {
+                host,
+                step: s.next(regs, sw, micros, reply),
+            },
+        }
+    }
+
+    // Over a script, as far as it goes.
+    pub fn run(
+        self,
+        first: Action,
+        regs: Regs,
+        sw: u32,
+        micros: u32,
+        host: Host,
+        replies: &[u32],
+        t: &mut [u32],
+    ) -> ReleaseBitsRan
+        ensures { λ r. ⌜ Moves (now (replies .entry)) (toldRelease regs sw micros (ReleaseBitsStep.Ask first self)) (tape host (now (t .entry))) (toldRelease regs sw micros (r .step)) (tape (r .host) (now (t .exit))) ⌝ }
+    {
+        let mut s = self;
+        let mut a = first;
+        let mut h = host;
+        loop {
+            let r = s.once(a, regs, sw, micros, h, replies, t);
+            let next = r.host;
+            let step = r.step;
+            if next.at == h.at {
+                return r;
+            }
+            h = next;
+            match step {
+                ReleaseBitsStep::Done(_) => {
+                    return r;
+                }
+                ReleaseBitsStep::Ask(b, n) => {
+                    a = b;
+                    s = n;
+                }
+            }
         }
     }
 }

@@ -1,4 +1,7 @@
 // The register semaphore: `smbi`, `clear`, `lock` and `unlock` of sync.rs, each suspended at an action.
+use drive::Acted;
+use drive::Host;
+use drive::act;
 use hardware::Action;
 use hardware::Error;
 use hardware::Port;
@@ -6,6 +9,7 @@ use hardware::Regs;
 use hardware::Reply;
 use hardware::Unit;
 use hardware::Word;
+ghost use Rattle.drive.specs.Moves.{tape, Moves};
 ghost use mathlib.Core.Path.{_≡_};
 ghost use Rattle.hardware.specs.Told.{wordOf};
 ghost use Rattle.reference.specs.Sync.{smbi, smbiTimes, clear, regsmpTimes, lock, unlock};
@@ -34,6 +38,11 @@ pub enum Smbi {
 pub enum SmbiStep {
     Ask(Action, Smbi),
     Done(Unit),
+}
+
+pub struct SmbiRan {
+    pub host: Host,
+    pub step: SmbiStep,
 }
 
 impl Smbi {
@@ -68,6 +77,47 @@ impl Smbi {
                 }
             },
             Smbi::Waiting(left) => Smbi::again(swsm, left),
+        }
+    }
+
+    // Over a script, as far as it goes.
+    pub fn run(
+        self,
+        first: Action,
+        swsm: u32,
+        host: Host,
+        replies: &[u32],
+        t: &mut [u32],
+    ) -> SmbiRan
+        ensures { λ r. ⌜ Moves (now (replies .entry)) (toldSmbi swsm (SmbiStep.Ask first self)) (tape host (now (t .entry))) (toldSmbi swsm (r .step)) (tape (r .host) (now (t .exit))) ⌝ }
+    {
+        let mut s = self;
+        let mut a = first;
+        let mut h = host;
+        loop {
+            match act(h, a, replies, t) {
+                Acted::Short => {
+                    return SmbiRan {
+                        host: h,
+                        step: SmbiStep::Ask(a, s),
+                    };
+                }
+                Acted::Is(next, reply) => {
+                    h = next;
+                    match s.next(swsm, reply) {
+                        SmbiStep::Ask(b, n) => {
+                            a = b;
+                            s = n;
+                        }
+                        SmbiStep::Done(r) => {
+                            return SmbiRan {
+                                host: h,
+                                step: SmbiStep::Done(r),
+                            };
+                        }
+                    }
+                }
+            }
         }
     }
 }
@@ -118,6 +168,11 @@ pub enum Lock {
 pub enum LockStep {
     Ask(Action, Lock),
     Done(Unit),
+}
+
+pub struct LockRan {
+    pub host: Host,
+    pub step: LockStep,
 }
 
 impl Lock {
@@ -194,6 +249,71 @@ impl Lock {
             },
         }
     }
+
+    // Over a script: one action, or as much as a machine inside takes.
+    fn once(self, a: Action, regs: Regs, h: Host, replies: &[u32], t: &mut [u32]) -> LockRan
+        ensures { λ r. ⌜ Moves (now (replies .entry)) (toldLock regs (LockStep.Ask a self)) (tape h (now (t .entry))) (toldLock regs (r .step)) (tape (r .host) (now (t .exit))) ⌝ }
+    {
+        if let Lock::Smbi(s) = self {
+            let r = s.run(a, regs.swsm, h, replies, t);
+            let host = r.host;
+            let step = r.step;
+            return LockRan {
+                host,
+                step: Lock::after_smbi(regs, step),
+            };
+        }
+        Lock::single(self, a, regs, h, replies, t)
+    }
+
+    fn single(s: Lock, a: Action, regs: Regs, h: Host, replies: &[u32], t: &mut [u32]) -> LockRan
+        ensures { λ r. ⌜ Moves (now (replies .entry)) (toldLock regs (LockStep.Ask a s)) (tape h (now (t .entry))) (toldLock regs (r .step)) (tape (r .host) (now (t .exit))) ⌝ }
+    {
+        match act(h, a, replies, t) {
+            Acted::Short => LockRan {
+                host: h,
+                step: LockStep::Ask(a, s),
+            },
+            Acted::Is(host, reply) => LockRan {
+                host,
+                step: s.next(regs, reply),
+            },
+        }
+    }
+
+    // Over a script, as far as it goes.
+    pub fn run(
+        self,
+        first: Action,
+        regs: Regs,
+        host: Host,
+        replies: &[u32],
+        t: &mut [u32],
+    ) -> LockRan
+        ensures { λ r. ⌜ Moves (now (replies .entry)) (toldLock regs (LockStep.Ask first self)) (tape host (now (t .entry))) (toldLock regs (r .step)) (tape (r .host) (now (t .exit))) ⌝ }
+    {
+        let mut s = self;
+        let mut a = first;
+        let mut h = host;
+        loop {
+            let r = s.once(a, regs, h, replies, t);
+            let next = r.host;
+            let step = r.step;
+            if next.at == h.at {
+                return r;
+            }
+            h = next;
+            match step {
+                LockStep::Done(_) => {
+                    return r;
+                }
+                LockStep::Ask(b, n) => {
+                    a = b;
+                    s = n;
+                }
+            }
+        }
+    }
 }
 
 // unlock
@@ -206,6 +326,11 @@ pub enum Unlock {
 pub enum UnlockStep {
     Ask(Action, Unlock),
     Done(Unit),
+}
+
+pub struct UnlockRan {
+    pub host: Host,
+    pub step: UnlockStep,
 }
 
 impl Unlock {
@@ -246,6 +371,47 @@ impl Unlock {
             Unlock::Sync(s) => Unlock::after_sync(regs, s.next(regs.sync, Lock::REGSMP, reply)),
             Unlock::Smbi(s) => Unlock::after_smbi(regs, s.next(regs.swsm, Lock::SMBI, reply)),
             Unlock::Flushing => UnlockStep::Done(reply.done()),
+        }
+    }
+
+    // Over a script, as far as it goes.
+    pub fn run(
+        self,
+        first: Action,
+        regs: Regs,
+        host: Host,
+        replies: &[u32],
+        t: &mut [u32],
+    ) -> UnlockRan
+        ensures { λ r. ⌜ Moves (now (replies .entry)) (toldUnlock regs (UnlockStep.Ask first self)) (tape host (now (t .entry))) (toldUnlock regs (r .step)) (tape (r .host) (now (t .exit))) ⌝ }
+    {
+        let mut s = self;
+        let mut a = first;
+        let mut h = host;
+        loop {
+            match act(h, a, replies, t) {
+                Acted::Short => {
+                    return UnlockRan {
+                        host: h,
+                        step: UnlockStep::Ask(a, s),
+                    };
+                }
+                Acted::Is(next, reply) => {
+                    h = next;
+                    match s.next(regs, reply) {
+                        UnlockStep::Ask(b, n) => {
+                            a = b;
+                            s = n;
+                        }
+                        UnlockStep::Done(r) => {
+                            return UnlockRan {
+                                host: h,
+                                step: UnlockStep::Done(r),
+                            };
+                        }
+                    }
+                }
+            }
         }
     }
 }

@@ -5,6 +5,7 @@ use crate::bits::ReleaseBits;
 use crate::bits::ReleaseBitsStep;
 use crate::lock::Lock;
 use crate::lock::Smbi;
+use drive::Host;
 use hardware::Action;
 use hardware::Family;
 use hardware::Port;
@@ -12,6 +13,7 @@ use hardware::Regs;
 use hardware::Reply;
 use hardware::Unit;
 use words::semaphore::Bits;
+ghost use Rattle.drive.specs.Moves.{tape, Moves};
 ghost use mathlib.Core.Path.{_≡_};
 ghost use Rattle.hardware.specs.Talk.{ask};
 ghost use Rattle.hardware.specs.Regs.{regs};
@@ -53,6 +55,11 @@ fn settle(mask: u32) -> u32
     ensures { λ r. ⌜ settle mask ≡ r ⌝ }
 {
     if mask & 0x406 == 0 { 2000 } else { 10 }
+}
+
+pub struct SyncRan {
+    pub host: Host,
+    pub step: SyncStep,
 }
 
 impl Sync {
@@ -121,6 +128,33 @@ impl Sync {
                 mask,
                 s.next(regs, want.sw, settle(mask), reply),
             ),
+        }
+    }
+
+    // Over a script, as far as it goes.
+    pub fn run(self, a: Action, mask: u32, h: Host, replies: &[u32], t: &mut [u32]) -> SyncRan
+        ensures { λ r. ⌜ Moves (now (replies .entry)) (toldSync mask (SyncStep.Ask a self)) (tape h (now (t .entry))) (toldSync mask (r .step)) (tape (r .host) (now (t .exit))) ⌝ }
+    {
+        let want = Bits::of(mask);
+        match self {
+            Sync::Take(regs, on, s) => {
+                let r = s.run(a, regs, want, on, h, replies, t);
+                let host = r.host;
+                let step = r.step;
+                SyncRan {
+                    host,
+                    step: Sync::taking(regs, on, mask, step),
+                }
+            }
+            Sync::Give(regs, s) => {
+                let r = s.run(a, regs, want.sw, settle(mask), h, replies, t);
+                let host = r.host;
+                let step = r.step;
+                SyncRan {
+                    host,
+                    step: Sync::giving(regs, mask, step),
+                }
+            }
         }
     }
 }

@@ -3,8 +3,8 @@ use crate::kinds::OperationLine;
 use crate::kinds::is_name;
 use crate::kinds::no_more;
 use crate::setups::setup_named;
-use conversation::operation::Operation;
 use kr::modify::Change;
+use started::operation::Operation;
 ghost use mathlib.Core.Path.{_≡_};
 ghost use Rattle.trace.specs.Kr.{withKrRead, withKrWrite, withKrModify, withKrAutoneg, withNvmWord, restName, krName};
 

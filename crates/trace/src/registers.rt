@@ -4,13 +4,13 @@ use crate::kinds::is_name;
 use crate::kinds::no_more;
 use crate::kr_registers::kr_named;
 use answers::Speeds;
-use conversation::operation::Operation;
 use phy::advertise::Advertised;
 use phy::advertise::MaybeFlag;
 use phy::modify::Register;
+use started::operation::Operation;
 ghost use mathlib.Core.Path.{_≡_};
 ghost use lib.ListN.{length};
-ghost use Rattle.conversation.specs.declared.operation.Operation.the-variants as operation;
+ghost use Rattle.started.specs.declared.operation.Operation.the-variants as operation;
 ghost use Rattle.trace.specs.Mdio.{withReadReg, withWriteReg, withModify, withPhy, withReset, withAdvertise, phyName, mdioName};
 
 fn read_reg(args: &[u32]) -> OperationLine

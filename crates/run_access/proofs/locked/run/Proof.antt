@@ -1,0 +1,30 @@
+use Prim.Native.Nat.{_-_}
+use mathlib.Core.Path.{_≡_, refl, ap}
+use borrow.Author.Needs.{needs}
+use lib.ListN.{length}
+use Rattle.access.specs.Locked.{toldLocked}
+use Rattle.drive.specs.Moves.{tape, Moves, stays}
+use Rattle.drive.proofs.Laws.{then, told-as, moves-less}
+use Rattle.access.specs.declared.locked.LockedStep.the-variants as lockedstep
+use Rattle.run_access.proofs.locked.run.Statement.{statement}
+use Rattle.run_access.proofs.locked.run.Tie as tie
+
+pub run-spec : {M : Type 1} → statement M
+run-spec =
+    tie.close
+    (tie.spec
+    (λ port mask b₀ replies t₀ s₀ a₀ h₀ b t s a h.
+    (length t ≡ length t₀)
+    × Moves replies (toldLocked port mask b₀ (lockedstep.Ask a₀ s₀)) (tape h₀ t₀) (toldLocked port mask b (lockedstep.Ask a s)) (tape h t))
+    (λ port mask b₀ replies t₀ s₀ a₀ h₀ b t s a h. length t - h .at)
+    (λ c. (refl, stays))
+    (λ c κs. search needs)
+    (λ c. search needs)
+    (λ c. let d = c .before .before .before .before .before .before in then (d .before .before .before .loop .inv .1) (d .once .ensures))
+    (λ c. search needs)
+    (λ c. search needs)
+    (λ c. let d = c .before .before .before .before .before .before .before .before in then (d .before .before .before .loop .inv .1) (d .once .ensures))
+    (λ c. search needs)
+    (λ c. moves-less (c .before .before .before .before .before .before .before .before .before .once .ensures) (c .before .before .before .if1 .left))
+    (λ c. let d = c .before .before .before .before .before .before .before .before .before in
+    (search needs, told-as (ap (toldLocked _ _ _) (c .before .step .given .1)) (then (d .before .before .before .loop .inv .1) (d .once .ensures)))))

@@ -1,0 +1,12 @@
+use borrow.Author.Needs.{needs}
+use Rattle.started.proofs.start.bringup.Statement.{statement}
+use Rattle.started.proofs.start.bringup.Tie as tie
+
+pub bringup-spec : {M : Type 1} → statement M
+bringup-spec =
+    tie.close
+    (tie.spec
+    (λ c κs. search needs)
+    (λ c κs. search needs)
+    (λ c κs. search needs)
+    (λ c. simp (c .before .before .before .start .ensures, c .before .bringup .ensures, c .decided .ensures)))

@@ -1,0 +1,12 @@
+use borrow.Author.Needs.{needs}
+use Rattle.started.proofs.start.kr_modify.Statement.{statement}
+use Rattle.started.proofs.start.kr_modify.Tie as tie
+
+pub kr-modify-spec : {M : Type 1} → statement M
+kr-modify-spec =
+    tie.close
+    (tie.spec
+    (λ c κs. search needs)
+    (λ c κs. search needs)
+    (λ c κs. search needs)
+    (λ c. simp (c .before .before .before .start .ensures, c .before .modify .ensures, c .decided .ensures)))

@@ -1,0 +1,232 @@
+// What can be begun, and where a begun operation stands.
+use access::access::Access;
+use access::access::AccessStep;
+use access::access::Job;
+use activity::Asked;
+use answers::Answer;
+use drive::Host;
+use hardware::Action;
+use hardware::Port;
+use hardware::Reply;
+use kr::modify::Change;
+use operations::After;
+use operations::AfterStep;
+use phy::advertise::Advertised;
+use phy::modify::Register;
+use run_access::under;
+use watch::store::Watch;
+ghost use mathlib.Core.Path.{_≡_};
+ghost use Rattle.hardware.specs.Talk.{andThen};
+ghost use Rattle.drive.specs.Moves.{tape, Moves};
+ghost use Rattle.access.specs.Access.{toldAccess, jobTalk};
+ghost use Rattle.operations.specs.After.{resumeAfter, toldAfter};
+ghost use Rattle.started.specs.Operation.{phyOf, deviceOf, resumeOp, told};
+
+// What the host asks for.
+pub enum Operation {
+    Veto,
+    Link,
+    // mask
+    Acquire(u32),
+    // mask
+    Release(u32),
+    // its words are the host block's
+    Command,
+    // take
+    Token(bool),
+    PhyActivity(Asked),
+    // phy, device, register
+    ReadReg(u32, u32, u16),
+    // phy, device, register, value
+    WriteReg(u32, u32, u16, u16),
+    Modify(Register),
+    // phy
+    Probe(u32),
+    Scan,
+    // phy, whether it is an X557
+    Reset(u32, bool),
+    // phy
+    Abilities(u32),
+    Advertise(Advertised),
+    // phy
+    AnLink(u32),
+    // address
+    KrRead(u32),
+    // address, value
+    KrWrite(u32, u32),
+    KrModify(Change),
+    RestartAn,
+    // kr, kx
+    KrAutoneg(bool, bool),
+    // word
+    NvmWord(u16),
+    AfterReset,
+    // veto
+    Bringup(bool),
+    Poll(Watch),
+}
+
+// A running operation, at the action that its access asks for.
+pub struct Op {
+    pub access: Access,
+    pub after: After,
+}
+
+// Where a conversation stands: at its end, with how many words of the host block belong to the answer, or at an action that
+// it asks for.
+pub enum Place {
+    Ended(Answer, usize),
+    Asks(Action, Op),
+}
+
+// A place on a script and a transcript.
+pub struct OpRan {
+    pub host: Host,
+    pub place: Place,
+}
+
+impl Operation {
+    // The PHY address among its arguments, 0 where it has none.
+    pub fn phy(self) -> u32
+        ensures { λ r. ⌜ phyOf self ≡ r ⌝ }
+    {
+        match self {
+            Operation::Veto => 0,
+            Operation::Link => 0,
+            Operation::Acquire(_) => 0,
+            Operation::Release(_) => 0,
+            Operation::Command => 0,
+            Operation::Token(_) => 0,
+            Operation::PhyActivity(_) => 0,
+            Operation::ReadReg(phy, _, _) => phy,
+            Operation::WriteReg(phy, _, _, _) => phy,
+            Operation::Modify(at) => at.phy,
+            Operation::Probe(phy) => phy,
+            Operation::Scan => 0,
+            Operation::Reset(phy, _) => phy,
+            Operation::Abilities(phy) => phy,
+            Operation::Advertise(asked) => asked.phy,
+            Operation::AnLink(phy) => phy,
+            Operation::KrRead(_) => 0,
+            Operation::KrWrite(_, _) => 0,
+            Operation::KrModify(_) => 0,
+            Operation::RestartAn => 0,
+            Operation::KrAutoneg(_, _) => 0,
+            Operation::NvmWord(_) => 0,
+            Operation::AfterReset => 0,
+            Operation::Bringup(_) => 0,
+            Operation::Poll(watch) => watch.phy,
+        }
+    }
+
+    // The MDIO device address among its arguments, 0 where it has none.
+    pub fn device(self) -> u32
+        ensures { λ r. ⌜ deviceOf self ≡ r ⌝ }
+    {
+        match self {
+            Operation::Veto => 0,
+            Operation::Link => 0,
+            Operation::Acquire(_) => 0,
+            Operation::Release(_) => 0,
+            Operation::Command => 0,
+            Operation::Token(_) => 0,
+            Operation::PhyActivity(_) => 0,
+            Operation::ReadReg(_, device, _) => device,
+            Operation::WriteReg(_, device, _, _) => device,
+            Operation::Modify(at) => at.device,
+            Operation::Probe(_) => 0,
+            Operation::Scan => 0,
+            Operation::Reset(_, _) => 0,
+            Operation::Abilities(_) => 0,
+            Operation::Advertise(_) => 0,
+            Operation::AnLink(_) => 0,
+            Operation::KrRead(_) => 0,
+            Operation::KrWrite(_, _) => 0,
+            Operation::KrModify(_) => 0,
+            Operation::RestartAn => 0,
+            Operation::KrAutoneg(_, _) => 0,
+            Operation::NvmWord(_) => 0,
+            Operation::AfterReset => 0,
+            Operation::Bringup(_) => 0,
+            Operation::Poll(_) => 0,
+        }
+    }
+}
+
+impl Op {
+    // The next access begins.
+    pub fn begun(port: Port, block: &mut [u32; 16], job: Job, after: After) -> Place
+        ensures { λ r. ⌜ told port r (now (block .exit)) ≡ andThen (jobTalk port job (now (block .entry))) (λ p. resumeAfter port after (p .0) (p .1)) ⌝ }
+    {
+        let begun = job.start(port, block);
+        let access = begun.access;
+        let action = begun.action;
+        Place::Asks(action, Op { access, after })
+    }
+
+    pub fn decided(port: Port, block: &mut [u32; 16], step: AfterStep) -> Place
+        ensures { λ r. ⌜ told port r (now (block .exit)) ≡ toldAfter port (now (block .entry)) step ⌝ }
+    {
+        match step {
+            AfterStep::Ask(job, after) => Op::begun(port, block, job, after),
+            AfterStep::Done(answer, words) => Place::Ended(answer, words),
+        }
+    }
+
+    pub fn stepped(port: Port, after: After, block: &mut [u32; 16], step: AccessStep) -> Place
+        ensures { λ r. ⌜ told port r (now (block .exit)) ≡ andThen (toldAccess port (now (block .entry)) step) (λ p. resumeAfter port after (p .0) (p .1)) ⌝ }
+    {
+        match step {
+            AccessStep::Ask(a, access) => Place::Asks(a, Op { access, after }),
+            AccessStep::Done(got, words) => {
+                let next = after.next(port, block, got, words);
+                Op::decided(port, block, next)
+            }
+        }
+    }
+
+    // Goes on from the reply.
+    pub fn next(self, port: Port, block: &mut [u32; 16], reply: Reply) -> Place
+        ensures { λ r. ⌜ told port r (now (block .exit)) ≡ resumeOp port self reply (now (block .entry)) ⌝ }
+    {
+        let access = self.access;
+        let after = self.after;
+        let step = access.next(port, block, reply);
+        Op::stepped(port, after, block, step)
+    }
+
+    // Over a script, as far as its access goes by itself.
+    pub fn run(
+        self,
+        a: Action,
+        port: Port,
+        block: &mut [u32; 16],
+        h: Host,
+        replies: &[u32],
+        t: &mut [u32],
+    ) -> OpRan
+        ensures { λ r. ⌜ Moves (now (replies .entry)) (told port (Place.Asks a self) (now (block .entry))) (tape h (now (t .entry))) (told port (r .place) (now (block .exit))) (tape (r .host) (now (t .exit))) ⌝ }
+    {
+        let access = self.access;
+        let after = self.after;
+        let r = under::run(access, a, port, block, h, replies, t);
+        let host = r.host;
+        let step = r.step;
+        let place = Op::stepped(port, after, block, step);
+        OpRan { host, place }
+    }
+}
+
+impl OpRan {
+    // As far as the access that stands there goes by itself.
+    pub fn ahead(self, port: Port, block: &mut [u32; 16], replies: &[u32], t: &mut [u32]) -> OpRan
+        ensures { λ r. ⌜ Moves (now (replies .entry)) (told port (self .place) (now (block .entry))) (tape (self .host) (now (t .entry))) (told port (r .place) (now (block .exit))) (tape (r .host) (now (t .exit))) ⌝ }
+    {
+        let host = self.host;
+        let place = self.place;
+        match place {
+            Place::Ended(_, _) => self,
+            Place::Asks(a, op) => op.run(a, port, block, host, replies, t),
+        }
+    }
+}
