@@ -199,7 +199,7 @@ fn check(name: &str, shown: Given, actions: usize, port: Port, what: What, repli
 
 fn main() {
     let millis: f64 = std::env::args().nth(1).map_or(20.0, |w| w.parse().expect("milliseconds of a round"));
-    println!("nanoseconds per action         actions      Rust       run   ratio      step   ratio");
+    println!("nanoseconds per action         actions      Rust       run   ratio     calls      rest   ratio      step   ratio");
     let mut sizes = vec![];
     for Job { name, port, what, mood } in jobs() {
         let mut device = Device::new(mood);
@@ -210,16 +210,20 @@ fn main() {
         let mut ours = |call: fn(Port, What, &[u32], &mut [u32]) -> port::Ran, count| {
             timed(count, || { black_box(call(port, black_box(what), &replies, &mut t)); })
         };
-        let count = ((millis * 1e6 / ours(port::run, 50)) as usize).max(1);
+        let rounds = |nanos: f64| ((millis * 1e6 / nanos) as usize).max(1);
+        let (count, few) = (rounds(ours(port::run, 50)), rounds(ours(port::steps, 1)));
         let mut u = vec![0; 3 * actions];
-        let mut times = [vec![], vec![], vec![]];
+        let mut times = [vec![], vec![], vec![], vec![]];
         for _ in 0..ROUNDS {
             times[0].push(timed(count, || { black_box(over(port, black_box(what), &replies, &mut u)); }));
             times[1].push(ours(port::run, count));
-            times[2].push(ours(port::steps, count));
+            times[2].push(ours(port::steps, few));
+            // The same three calls, with no reply and no room: what they cost beside the actions.
+            times[3].push(timed(count, || { black_box(port::run(port, black_box(what), &[], &mut [])); }));
         }
-        let [r, o, s] = times.map(|t| middle(t) / actions as f64);
-        println!("{name:30} {actions:7} {r:9.2} {o:9.2} {:7.2} {s:9.2} {:7.2}", o / r, s / r);
+        let [r, o, s, calls] = times.map(|t| middle(t) / actions as f64);
+        let rest = o - calls;
+        println!("{name:30} {actions:7} {r:9.2} {o:9.2} {:7.2} {calls:9.2} {rest:9.2} {:7.2} {s:9.2} {:7.2}", o / r, rest / r, s / r);
         let none = stack::used(|| ());
         sizes.push((name, stack::used(|| { black_box(over(port, black_box(what), &replies, &mut u)); }) - none,
             stack::used(|| { black_box(port::run(port, black_box(what), &replies, &mut u)); }) - none,
