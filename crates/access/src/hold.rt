@@ -6,6 +6,7 @@ use hardware::Regs;
 use hardware::Reply;
 use hardware::Unit;
 use hostif::command::Command;
+use hostif::command::CommandStep;
 use hostif::token::Flag;
 use hostif::token::Token;
 use hostif::token::TokenStep;
@@ -15,6 +16,7 @@ ghost use Prim.Native.Nat.{ℕ};
 ghost use mathlib.Core.Bool.{true, false};
 ghost use mathlib.Core.List.{List};
 ghost use mathlib.Core.Path.{_≡_};
+ghost use lib.ListN.{take};
 ghost use Rattle.hardware.specs.Talk.{ask};
 ghost use Rattle.hardware.specs.Regs.{regs};
 ghost use Rattle.hardware.specs.declared.Action.the-variants.{Read};
@@ -31,8 +33,9 @@ ghost use Rattle.reference.specs.Acquire.{
   releaseRest,
 };
 ghost use Rattle.sync.specs.Sync.{toldSync};
-ghost use Rattle.hostif.specs.Token.{flagOf, toldToken};
-ghost use Rattle.access.specs.Hold.{holdTaken, holdFreed, holdGiven, holdAsked, holdReturned, holdBits, resumeHold, toldHold};
+ghost use Rattle.hostif.specs.Command.{toldCommand};
+ghost use Rattle.hostif.specs.Token.{flagOf, tokenAfter, toldToken};
+ghost use Rattle.access.specs.Hold.{holdTaken, holdFreed, holdGiven, holdAsked, holdReturned, holdBits, holdToken, takes, resumeHold, toldHold};
 
 // Where acquire_bits or release_bits runs.
 pub enum BitsPlace {
@@ -261,26 +264,18 @@ impl Hold {
         }
     }
 
-    fn token(
-        port: Port,
-        hw: u32,
-        block: &mut [u32; 16],
-        place: TokenPlace,
-        state: Command,
-        reply: Reply,
-    ) -> HoldStep
-        ensures { λ r. ⌜ toldHold port hw (now (block .exit)) r ≡ resumeHold port hw (Hold.Token place state) (now (block .entry)) reply ⌝ }
+    // What is made of the token's command.
+    pub fn commanded(port: Port, hw: u32, place: TokenPlace, step: CommandStep) -> HoldStep
+        ensures { λ r. ⌜ ((b : List ℕ) → toldHold port hw b r ≡ holdToken port hw place (tokenAfter (takes place) (toldCommand port (take 2 b) step))) ⌝ }
     {
         match place {
             TokenPlace::Taking(left) => {
                 let token = Token { take: true };
-                let step = token.next(state, port, block, reply);
-                Hold::asked(port, hw, left, step)
+                Hold::asked(port, hw, left, token.after_command(port, step))
             }
             TokenPlace::Giving => {
                 let token = Token { take: false };
-                let step = token.next(state, port, block, reply);
-                Hold::gave(port, hw, step)
+                Hold::gave(port, hw, token.after_command(port, step))
             }
         }
     }
@@ -290,7 +285,10 @@ impl Hold {
     {
         match self {
             Hold::Bits(place, s) => Hold::bits(port, hw, block, place, s.next(hw, reply)),
-            Hold::Token(place, s) => Hold::token(port, hw, block, place, s, reply),
+            Hold::Token(place, s) => {
+                let step = s.next_of(2, port, block, reply);
+                Hold::commanded(port, hw, place, step)
+            }
             Hold::Pausing(left) => Hold::again(port, hw, block, left),
         }
     }

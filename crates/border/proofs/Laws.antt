@@ -1,12 +1,10 @@
 -- A conversation's words, all of them, and what a call makes of what it is given
-use Prim.Native.Nat.{ℕ, zero, suc, _≤_}
-use native.Mathlib.Omega.{arith}
+use Prim.Native.Nat.{ℕ, zero, suc}
 use mathlib.Core.Path.{_≡_, refl, ap, sym, _∙_}
 use mathlib.Core.Bool.{Bool, true, false, not}
 use mathlib.Core.List.{List, [], _∷_, _++_, append-nil}
 use lib.Dec.{eqb}
-use lib.ListN.{length, take, length-append, length-take}
-use lib.Seq.{take-all}
+use lib.ListN.{length, take, length-append}
 use Rattle.hardware.specs.Numbers as error
 use Rattle.hardware.specs.Refusal.{refusal}
 use Rattle.hardware.specs.Told.{unitOf}
@@ -16,8 +14,6 @@ use Rattle.hardware.specs.Talk.{pick, ok, err}
 use Rattle.hardware.specs.declared.Error.{Error}
 use Rattle.hardware.specs.declared.Error.the-variants.{Io, Removed, Timeout, Sideband, Semaphore, HostInterface, Firmware, NoPhy, PhyReset, Lan, Fiber, Address, Block}
 use Rattle.hardware.specs.declared.Port.{Port}
-use Rattle.packed_access.specs.Tape.{kept}
-use Rattle.packed_access.proofs.Laws.{added-more}
 use Rattle.packed_access.proofs.Width.Hardware.{family-length}
 use Rattle.conversation.specs.Conversation.{Conv, Step, steppedOf, convOf, stepTalk, begun, number}
 use Rattle.started.specs.Operation.{phyOf, deviceOf, told}
@@ -37,7 +33,7 @@ use Rattle.border.specs.declared.Asked.{Asked}
 use Rattle.drive.specs.Act as act
 use Rattle.border.specs.Started.{wordsPlace, getPlace}
 use Rattle.border.specs.Held.{wordsOf, heldBy, isHeld}
-use Rattle.border.specs.Border.{Outcome, went, stayed, outcomeOf, nothing, opens, stepped, steps, asking, asks, none, Told, answering, answersOf, answers, noAnswer, ranBy, ran, kept as keptWords, ranOf, runs}
+use Rattle.border.specs.Border.{Outcome, went, stayed, outcomeOf, nothing, opens, stepped, steps, asking, asks, none, Told, answering, answersOf, answers, noAnswer, ranBy, ran, kept, ranOf, runs}
 use Rattle.border.specs.declared.Ran.{Ran}
 use Rattle.conversation.specs.declared.run.Ran as code
 use Rattle.border.specs.declared.held.Held.{Held}
@@ -46,19 +42,6 @@ use Rattle.border.proofs.Width.Started.{place-length}
 pub wordsOf-length : (c : Conversation) → length (wordsOf c) ≡ 65
 unfolding wordsOf
 wordsOf-length c = simp (length-append, family-length, place-length)
-
--- words from the first on
-pub added-first : (ys zs : List ℕ) → kept (kept ys ++ zs) ≡ kept (ys ++ zs)
-added-first ys zs = added-more [] ys zs
-
--- what a full tape shows is all of it
-pub whole : (n : ℕ) (ws xs : List ℕ) → length ws ≡ 65 → length xs ≡ 65 → take n ws ≡ kept xs → ws ≡ xs
-unfolding kept
-whole n ws xs w x e =
-    let shown : take n ws ≡ xs = e ∙ take-all 65 xs (omega arith) in
-    let count = sym (length-take n ws) ∙ ap length shown ∙ x in
-    let enough : length ws ≤ n = omega (arith, count, w) in
-    sym (take-all n ws enough) ∙ shown
 
 -- the last part, with nothing behind it
 pub place-back : (p : Place) → ((rest : List ℕ) → getPlace (wordsPlace p ++ rest) ≡ p) → getPlace (wordsPlace p) ≡ p

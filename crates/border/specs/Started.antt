@@ -7,8 +7,8 @@ use Rattle.hardware.specs.Talk.{pick}
 use Rattle.packed_access.specs.Tape.{wordAt, is, flagOf, joined}
 use Rattle.packed_access.specs.Access.{wordsAccess, getAccess}
 use Rattle.packed_access.specs.Hardware.{wordsAction, getAction}
-use Rattle.packed_after.specs.Answers.{wordsAnswer, getAnswer}
 use Rattle.packed_after.specs.Operations.{wordsAfter, getAfter}
+use Rattle.packed_answers.specs.Answers.{wordsAnswer, getAnswer}
 use Rattle.started.specs.declared.operation.Place.the-variants as placev
 use Rattle.started.specs.declared.operation.Place.{Place}
 

@@ -8,17 +8,12 @@ use packed_access::p_hardware::put_family;
 use packed_access::read::half;
 use packed_access::read::joined;
 use packed_access::read::word_at;
-use packed_access::tape::Tape;
-use packed_access::tape::empty;
 use packed_access::tape::long;
 use packed_access::tape::wide;
 use packed_access::tape::word;
 ghost use mathlib.Core.Bool.{true};
 ghost use mathlib.Core.Path.{_≡_};
-ghost use mathlib.Core.List.{List};
-ghost use Prim.Native.Nat.{ℕ};
 ghost use lib.ListN.{length};
-ghost use Rattle.packed_access.specs.Tape.{shown, kept};
 ghost use Rattle.text.specs.Same.{same};
 ghost use Rattle.border.specs.Held.{wordsOf, conversationOf, heldBy, isHeld};
 
@@ -29,26 +24,19 @@ pub struct Held {
     pub block: [u32; 16],
 }
 
-fn put_conversation(c: Conversation) -> Tape
-    ensures { λ r. ⌜ (shown r ≡ kept (wordsOf c)) × (conversationOf (wordsOf c) (c .block) ≡ c) ⌝ }
+// All words of a conversation.
+fn put_conversation(tape: &mut [u32; 65], c: Conversation)
+    ensures { λ _. ⌜ (length (now (tape .entry)) ≡ 65 → now (tape .exit) ≡ wordsOf c) × (conversationOf (wordsOf c) (c .block) ≡ c) ⌝ }
 {
     let port = c.port;
     let family = port.family;
     let place = c.place;
-    let t = word(empty(), wide(port.device));
-    let t = word(t, port.lan);
-    let t = long(t, c.actions as usize);
-    let t = long(t, c.micros as usize);
-    let t = put_family(t, family);
-    put_place(t, place)
-}
-
-// All words of a tape, where it is full.
-fn all_of(t: Tape) -> [u32; 65]
-    ensures { λ r. ⌜ ((xs : List ℕ) → length xs ≡ 65 → shown t ≡ kept xs → r ≡ xs) ⌝ }
-{
-    let words = t.words;
-    words
+    let at = word(tape, 0, wide(port.device));
+    let at = word(tape, at, port.lan);
+    let at = long(tape, at, c.actions as usize);
+    let at = long(tape, at, c.micros as usize);
+    let at = put_family(tape, at, family);
+    put_place(tape, at, place);
 }
 
 fn get_conversation(words: &[u32], block: [u32; 16]) -> Conversation
@@ -87,7 +75,8 @@ fn same_words(a: &[u32], b: &[u32]) -> bool
 pub fn hold(c: Conversation) -> Held
     ensures { λ r. ⌜ (heldBy r ≡ c) × (isHeld r ≡ true) ⌝ }
 {
-    let words = all_of(put_conversation(c));
+    let mut words = [0u32; 65];
+    put_conversation(&mut words, c);
     let block = c.block;
     Held { words, block }
 }
@@ -104,7 +93,8 @@ pub fn read_held(h: Held) -> Conversation
 pub fn is_held(h: Held) -> bool
     ensures { λ r. ⌜ isHeld h ≡ r ⌝ }
 {
-    let own = all_of(put_conversation(read_held(h)));
+    let mut own = [0u32; 65];
+    put_conversation(&mut own, read_held(h));
     let words = h.words;
     same_words(&own, &words)
 }

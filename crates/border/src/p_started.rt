@@ -6,40 +6,39 @@ use packed_access::p_hardware::put_action;
 use packed_access::read::after;
 use packed_access::read::joined;
 use packed_access::read::word_at;
-use packed_access::tape::Tape;
 use packed_access::tape::long;
 use packed_access::tape::word;
 use packed_access::tape::zeros;
-use packed_after::p_answers::get_answer;
-use packed_after::p_answers::put_answer;
 use packed_after::p_operations::get_after;
 use packed_after::p_operations::put_after;
+use packed_answers::p_answers::get_answer;
+use packed_answers::p_answers::put_answer;
 use started::operation::Op;
 use started::operation::Place;
 ghost use mathlib.Core.Path.{_≡_};
 ghost use Prim.Native.Nat.{ℕ};
 ghost use mathlib.Core.List.{List, _++_};
 ghost use lib.ListN.{drop};
-ghost use Rattle.packed_access.specs.Tape.{shown, added};
+ghost use Rattle.packed_access.specs.Tape.{Adds};
 ghost use Rattle.border.specs.Started.{getPlace, wordsPlace};
 
-pub fn put_place(t: Tape, s: Place) -> Tape
-    ensures { λ r. ⌜ (shown r ≡ added t (wordsPlace s)) × ((rest : List ℕ) → getPlace (wordsPlace s ++ rest) ≡ s) ⌝ }
+pub fn put_place(tape: &mut [u32; 65], at: usize, s: Place) -> usize
+    ensures { λ r. ⌜ Adds at (now (tape .entry)) (wordsPlace s) r (now (tape .exit)) × ((rest : List ℕ) → getPlace (wordsPlace s ++ rest) ≡ s) ⌝ }
 {
     match s {
         Place::Ended(answer, y) => {
-            let t = word(t, 1);
-            let t = long(t, y);
-            let t = put_answer(t, answer);
-            zeros(t, 41)
+            let at = word(tape, at, 1);
+            let at = long(tape, at, y);
+            let at = put_answer(tape, at, answer);
+            zeros(tape, at, 41)
         },
         Place::Asks(action, op) => {
-            let t = word(t, 2);
-            let t = put_action(t, action);
+            let at = word(tape, at, 2);
+            let at = put_action(tape, at, action);
             let the_access = op.access;
-            let t = put_access(t, the_access);
+            let at = put_access(tape, at, the_access);
             let the_after = op.after;
-            put_after(t, the_after)
+            put_after(tape, at, the_after)
         },
     }
 }

@@ -4,7 +4,6 @@ use crate::input::look;
 use crate::output::print;
 use crate::part::part;
 use conversation::conversation::Conversation;
-use conversation::run::Ran;
 use conversation::run::run;
 use trace::lines::Seen;
 use trace::listing::action_line;
@@ -89,27 +88,26 @@ fn behind_used(input: Input, behind: &[usize], used: usize) -> Input {
     from_place(input, behind[lines - 1])
 }
 
-// The run over the words of so many replies.
-fn run_over(c: Conversation, words: &[u32], count: usize, t: &mut [u32]) -> Ran {
-    if count > 64 {
-        return run(c, words, t, 0);
+// The words of so many replies; none where there are not so many.
+fn first(words: &[u32], count: usize) -> &[u32] {
+    if count > words.len() / 2 {
+        return &words[0..0];
     }
-    if 2 * count > words.len() {
-        return run(c, words, t, 0);
-    }
-    run(c, &words[0..2 * count], t, 0)
+    &words[0..2 * count]
 }
 
-pub fn ahead(c: Conversation, buf: &[u8], input: Input, out: &mut [u8], n: usize) -> Moved {
+pub fn ahead(from: Moved, buf: &[u8], out: &mut [u8]) -> Moved {
     let mut words = [0u32; 128];
     let mut behind = [0usize; 64];
     let mut t = [0u32; 384];
+    let input = from.input;
     let count = read_ahead(buf, input, &mut words, &mut behind);
-    let ran = run_over(c, &words, count, &mut t);
+    let c = from.to;
+    let ran = run(c, first(&words, count), &mut t, 0);
     let to = ran.to;
     Moved {
         to,
         input: behind_used(input, &behind, ran.used),
-        n: print_lines(&t, ran.at, out, n),
+        n: print_lines(&t, ran.at, out, from.n),
     }
 }

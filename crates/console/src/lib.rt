@@ -7,3 +7,4 @@ pub mod output;
 pub mod part;
 pub mod reply;
 pub mod talk;
+pub mod turn;

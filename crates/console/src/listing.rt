@@ -1,4 +1,5 @@
 // A listing, from the port's line on.
+use crate::ahead::Moved;
 use crate::ending::stop;
 use crate::input::Input;
 use crate::input::fetch;
@@ -46,7 +47,8 @@ fn opened(
         let end = stop(BAD_LINE, 0, 0, out, n);
         return Listed { input, n: end };
     };
-    talk(begin(p, operation, args, words), buf, input, out, n, asked)
+    let to = begin(p, operation, args, words);
+    talk(Moved { to, input, n }, buf, out, asked)
 }
 
 // The listing of one input, behind the n bytes that wait in `out`. Both lines are read before anything else. Where it is

@@ -7,6 +7,7 @@ use crate::input::Input;
 use crate::output::print;
 use crate::reply::Due;
 use crate::reply::answer;
+use crate::turn::turn;
 use conversation::conversation::Conversation;
 use started::operation::Place;
 
@@ -16,10 +17,27 @@ pub struct Listed {
     pub n: usize,
 }
 
+// Where a listing has come to, and the number that it stops with, 0 while it goes on.
+struct Came {
+    moved: Moved,
+    number: u32,
+}
+
+const AFTER_END: u32 = 24;
+
+// A reply's two words; a wait uses none of them.
+fn pair_of(due: Due) -> [u32; 2] {
+    match due {
+        Due::Reply(kind, value) => [kind, value],
+        Due::Nothing => [0, 0],
+        Due::Stop(_) => [0, 0],
+    }
+}
+
 // One action is done, and its line printed.
-fn act(c: Conversation, input: Input, replies: &[u32], out: &mut [u8], n: usize) -> Moved {
+fn act(c: Conversation, input: Input, pair: [u32; 2], out: &mut [u8], n: usize) -> Moved {
     let mut line = [0u8; 512];
-    let t = trace::turn::turn(c, replies, &mut line);
+    let t = turn(c, &pair, &mut line);
     let to = t.to;
     Moved {
         to,
@@ -28,96 +46,66 @@ fn act(c: Conversation, input: Input, replies: &[u32], out: &mut [u8], n: usize)
     }
 }
 
-fn go_on(c: Conversation, input: Input, due: Due, out: &mut [u8], n: usize) -> Moved {
-    let none = [0u32; 2];
-    match due {
-        Due::Stop(_) => Moved { to: c, input, n },
-        Due::Nothing => act(c, input, &none[0..0], out, n),
-        Due::Reply(kind, value) => {
-            let pair = [kind, value];
-            act(c, input, &pair, out, n)
-        }
-    }
-}
-
-// Where a listing has come to, and the number that it stops with, 0 while it does not.
-struct Came {
-    moved: Moved,
-    number: u32,
-}
-
-// What the replies in the buffer answer; then one action, whose reply is fetched.
-fn onward(c: Conversation, buf: &mut [u8], input: Input, out: &mut [u8], n: usize) -> Came {
-    let m = ahead(c, buf, input, out, n);
-    let to = m.to;
-    let place = to.place;
+// One action, whose reply is fetched; then what the replies in the buffer answer.
+fn onward(from: Moved, buf: &mut [u8], out: &mut [u8]) -> Came {
+    let c = from.to;
+    let place = c.place;
     let Place::Asks(a, _) = place else {
         return Came {
-            moved: m,
-            number: 0,
+            moved: from,
+            number: AFTER_END,
         };
     };
-    let d = answer(a, buf, m.input);
+    let d = answer(a, buf, from.input);
     let due = d.due;
-    let rest = d.input;
+    let input = d.input;
     if let Due::Stop(number) = due {
         let moved = Moved {
-            to,
-            input: rest,
-            n: m.n,
+            to: c,
+            input,
+            n: from.n,
         };
         return Came { moved, number };
     }
+    let one = act(c, input, pair_of(due), out, from.n);
     Came {
-        moved: go_on(to, rest, due, out, m.n),
+        moved: ahead(one, buf, out),
         number: 0,
     }
 }
 
-// The last lines of a conversation that asks for nothing more.
-fn close(c: Conversation, out: &mut [u8], n: usize, asked: bool) -> usize {
+// The last lines.
+fn finish(at: Came, out: &mut [u8], asked: bool) -> Listed {
+    let m = at.moved;
+    let c = m.to;
+    let input = m.input;
     let place = c.place;
     match place {
-        Place::Ended(answer, words) => ended(answer, words, c, asked, out, n),
-        Place::Asks(_, _) => n,
+        Place::Ended(answer, words) => Listed {
+            input,
+            n: ended(answer, words, c, asked, out, m.n),
+        },
+        Place::Asks(_, _) => Listed {
+            input,
+            n: stop(at.number, c.actions, c.micros, out, m.n),
+        },
     }
 }
 
 // No conversation is as long as the turns that are counted down.
-pub fn talk(
-    c: Conversation,
-    buf: &mut [u8],
-    input: Input,
-    out: &mut [u8],
-    n: usize,
-    asked: bool,
-) -> Listed {
-    let mut m = Moved { to: c, input, n };
+pub fn talk(from: Moved, buf: &mut [u8], out: &mut [u8], asked: bool) -> Listed {
+    let mut at = Came {
+        moved: from,
+        number: 0,
+    };
     let mut turns: u64 = u64::MAX;
     while turns > 0 {
-        let to = m.to;
-        let place = to.place;
-        if let Place::Ended(_, _) = place {
+        if at.number != 0 {
             break;
         }
-        let o = onward(to, buf, m.input, out, m.n);
-        m = o.moved;
-        if o.number != 0 {
-            let to = m.to;
-            let rest = m.input;
-            let end = stop(o.number, to.actions, to.micros, out, m.n);
-            return Listed {
-                input: rest,
-                n: end,
-            };
-        }
+        let moved = at.moved;
+        at = onward(moved, buf, out);
         turns -= 1;
     }
-    let to = m.to;
-    let rest = m.input;
-    let end = close(to, out, m.n, asked);
-    Listed {
-        input: rest,
-        n: end,
-    }
+    finish(at, out, asked)
 }

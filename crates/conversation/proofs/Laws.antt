@@ -126,9 +126,6 @@ run-moves : (p : Port) {rs : List ℕ} {m n : Talk Out} {t u : Tape} → Moves r
 run-moves p stays = refl
 run-moves p {rs} (goes {a} {k = f} {t = t} h k q) = run-moves p q ∙ sym (run-one p rs t a f h k)
 
-pub told-at : (p : Port) (b : List ℕ) {x y : Place} → x ≡ y → told p x b ≡ told p y b
-told-at p b e = ap (λ (x : Place). told p x b) e
-
 module _ (p : Port) {rs : List ℕ} {m₀ m : Talk Out} {t₀ t : Tape} (q : Moves rs m₀ t₀ m t) where
   pub run-ended : {r : Out} → m ≡ end r → shown p t (stopped m Done) ≡ runOn p m₀ rs t₀
   unfolding runOn

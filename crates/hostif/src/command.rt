@@ -100,7 +100,7 @@ impl Command {
         Command::Sync(CommandPlace::Acquiring, Sync::first(port, Bits::SW_MNG))
     }
 
-    fn synced(port: Port, place: CommandPlace, step: SyncStep) -> CommandStep
+    pub fn synced(port: Port, place: CommandPlace, step: SyncStep) -> CommandStep
         ensures { λ r. ⌜ ((b : List ℕ) → toldCommand port b r ≡ commandSynced port place (toldSync 0x400 step) b) ⌝ }
     {
         match place {

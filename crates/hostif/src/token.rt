@@ -5,7 +5,6 @@ use hardware::Action;
 use hardware::Error;
 use hardware::Port;
 use hardware::Regs;
-use hardware::Reply;
 use hardware::Word;
 ghost use Prim.Native.Nat.{ℕ, _≤_};
 ghost use mathlib.Core.List.{List};
@@ -86,7 +85,7 @@ impl Token {
         }
     }
 
-    fn after_command(self, port: Port, step: CommandStep) -> TokenStep
+    pub fn after_command(self, port: Port, step: CommandStep) -> TokenStep
         ensures { λ r. ⌜ ((b : List ℕ) → toldToken port (self .take) b r ≡ tokenAfter (self .take) (toldCommand port (take 2 b) step)) ⌝ }
     {
         match step {
@@ -125,12 +124,5 @@ impl Token {
         let regs = Regs::of(family);
         let state = self.first(port, block);
         TokenStep::Ask(Action::Read(regs.swsm), state)
-    }
-
-    pub fn next(self, state: Command, port: Port, block: &mut [u32; 16], reply: Reply) -> TokenStep
-        ensures { λ r. ⌜ toldToken port (self .take) (now (block .exit)) r ≡ resumeToken port (self .take) state (now (block .entry)) reply ⌝ }
-    {
-        let step = state.next_of(2, port, block, reply);
-        self.after_command(port, step)
     }
 }

@@ -1,21 +1,16 @@
 -- Words behind each other, and what is read from them
 use Prim.Native.Nat.{ℕ, _+_, _*_}
+use mathlib.Core.Path.{_≡_}
 use mathlib.Core.Bool.{Bool, true, false}
 use mathlib.Core.List.{List, _++_}
 use lib.Dec.{eqb}
-use lib.ListN.{take, getD}
+use lib.ListN.{length, take, getD}
 use Rattle.hardware.specs.Talk.{pick}
-use Rattle.packed_access.specs.declared.tape.Tape.{Tape}
 
-abbrev pub shown : Tape → List ℕ
-shown t = take (t .len) (t .words)
-
--- it has room for the words of a conversation
-unfoldable pub kept : List ℕ → List ℕ
-kept xs = take 65 xs
-
-abbrev pub added : Tape → List ℕ → List ℕ
-added t xs = kept (shown t ++ xs)
+-- the words are put behind the first `at`, as far as there is room; `r` is the place behind them
+pub record Adds (at : ℕ) (ws xs : List ℕ) (r : ℕ) (ws' : List ℕ) : Type 0 where
+  pub words : take r ws' ≡ take (length ws) (take at ws ++ xs)
+  pub room : length ws' ≡ length ws
 
 -- the word at a place, 0 behind the end
 unfoldable pub wordAt : List ℕ → ℕ → ℕ

@@ -23,7 +23,6 @@ use crate::read::after;
 use crate::read::half;
 use crate::read::joined;
 use crate::read::word_at;
-use crate::tape::Tape;
 use crate::tape::long;
 use crate::tape::wide;
 use crate::tape::word;
@@ -40,25 +39,25 @@ ghost use mathlib.Core.Path.{_≡_};
 ghost use Prim.Native.Nat.{ℕ};
 ghost use mathlib.Core.List.{List, _++_};
 ghost use lib.ListN.{drop};
-ghost use Rattle.packed_access.specs.Tape.{shown, added};
+ghost use Rattle.packed_access.specs.Tape.{Adds};
 ghost use Rattle.packed_access.specs.Access.{getAccess, getBitsPlace, getBody, getHeld, getHold, getHoldPlace, getLocked, getTokenPlace, wordsAccess, wordsBitsPlace, wordsBody, wordsHeld, wordsHold, wordsHoldPlace, wordsLocked, wordsTokenPlace};
 
-pub fn put_held(t: Tape, s: Held) -> Tape
-    ensures { λ r. ⌜ (shown r ≡ added t (wordsHeld s)) × ((rest : List ℕ) → getHeld (wordsHeld s ++ rest) ≡ s) ⌝ }
+pub fn put_held(tape: &mut [u32; 65], at: usize, s: Held) -> usize
+    ensures { λ r. ⌜ Adds at (now (tape .entry)) (wordsHeld s) r (now (tape .exit)) × ((rest : List ℕ) → getHeld (wordsHeld s ++ rest) ≡ s) ⌝ }
 {
     match s {
         Held::Mdio(wanted) => {
-            let t = word(t, 1);
-            put_wanted(t, wanted)
+            let at = word(tape, at, 1);
+            put_wanted(tape, at, wanted)
         },
         Held::Kr(kr_wanted) => {
-            let t = word(t, 2);
-            put_kr_wanted(t, kr_wanted)
+            let at = word(tape, at, 2);
+            put_kr_wanted(tape, at, kr_wanted)
         },
         Held::Nvm(x) => {
-            let t = word(t, 3);
-            let t = word(t, wide(x));
-            zeros(t, 2)
+            let at = word(tape, at, 3);
+            let at = word(tape, at, wide(x));
+            zeros(tape, at, 2)
         },
     }
 }
@@ -76,22 +75,22 @@ pub fn get_held(words: &[u32], at: usize) -> Held
     }
 }
 
-pub fn put_hold_place(t: Tape, s: HoldPlace) -> Tape
-    ensures { λ r. ⌜ (shown r ≡ added t (wordsHoldPlace s)) × ((rest : List ℕ) → getHoldPlace (wordsHoldPlace s ++ rest) ≡ s) ⌝ }
+pub fn put_hold_place(tape: &mut [u32; 65], at: usize, s: HoldPlace) -> usize
+    ensures { λ r. ⌜ Adds at (now (tape .entry)) (wordsHoldPlace s) r (now (tape .exit)) × ((rest : List ℕ) → getHoldPlace (wordsHoldPlace s ++ rest) ≡ s) ⌝ }
 {
     match s {
         HoldPlace::Alone => {
-            let t = word(t, 1);
-            zeros(t, 6)
+            let at = word(tape, at, 1);
+            zeros(tape, at, 6)
         },
         HoldPlace::Acquiring(held) => {
-            let t = word(t, 2);
-            let t = put_held(t, held);
-            zeros(t, 2)
+            let at = word(tape, at, 2);
+            let at = put_held(tape, at, held);
+            zeros(tape, at, 2)
         },
         HoldPlace::Releasing(x) => {
-            let t = word(t, 3);
-            put_word(t, x)
+            let at = word(tape, at, 3);
+            put_word(tape, at, x)
         },
     }
 }
@@ -109,28 +108,28 @@ pub fn get_hold_place(words: &[u32], at: usize) -> HoldPlace
     }
 }
 
-pub fn put_bits_place(t: Tape, s: BitsPlace) -> Tape
-    ensures { λ r. ⌜ (shown r ≡ added t (wordsBitsPlace s)) × ((rest : List ℕ) → getBitsPlace (wordsBitsPlace s ++ rest) ≡ s) ⌝ }
+pub fn put_bits_place(tape: &mut [u32; 65], at: usize, s: BitsPlace) -> usize
+    ensures { λ r. ⌜ Adds at (now (tape .entry)) (wordsBitsPlace s) r (now (tape .exit)) × ((rest : List ℕ) → getBitsPlace (wordsBitsPlace s ++ rest) ≡ s) ⌝ }
 {
     match s {
         BitsPlace::Plain => {
-            let t = word(t, 1);
-            zeros(t, 7)
+            let at = word(tape, at, 1);
+            zeros(tape, at, 7)
         },
         BitsPlace::Taking(x) => {
-            let t = word(t, 2);
-            let t = word(t, x);
-            zeros(t, 6)
+            let at = word(tape, at, 2);
+            let at = word(tape, at, x);
+            zeros(tape, at, 6)
         },
         BitsPlace::Freeing(x, y) => {
-            let t = word(t, 3);
-            let t = word(t, x);
-            put_flag(t, y)
+            let at = word(tape, at, 3);
+            let at = word(tape, at, x);
+            put_flag(tape, at, y)
         },
         BitsPlace::Giving(unit) => {
-            let t = word(t, 4);
-            let t = put_unit(t, unit);
-            word(t, 0)
+            let at = word(tape, at, 4);
+            let at = put_unit(tape, at, unit);
+            word(tape, at, 0)
         },
     }
 }
@@ -150,17 +149,17 @@ pub fn get_bits_place(words: &[u32], at: usize) -> BitsPlace
     }
 }
 
-pub fn put_token_place(t: Tape, s: TokenPlace) -> Tape
-    ensures { λ r. ⌜ (shown r ≡ added t (wordsTokenPlace s)) × ((rest : List ℕ) → getTokenPlace (wordsTokenPlace s ++ rest) ≡ s) ⌝ }
+pub fn put_token_place(tape: &mut [u32; 65], at: usize, s: TokenPlace) -> usize
+    ensures { λ r. ⌜ Adds at (now (tape .entry)) (wordsTokenPlace s) r (now (tape .exit)) × ((rest : List ℕ) → getTokenPlace (wordsTokenPlace s ++ rest) ≡ s) ⌝ }
 {
     match s {
         TokenPlace::Taking(x) => {
-            let t = word(t, 1);
-            word(t, x)
+            let at = word(tape, at, 1);
+            word(tape, at, x)
         },
         TokenPlace::Giving => {
-            let t = word(t, 2);
-            word(t, 0)
+            let at = word(tape, at, 2);
+            word(tape, at, 0)
         },
     }
 }
@@ -176,25 +175,25 @@ pub fn get_token_place(words: &[u32], at: usize) -> TokenPlace
     }
 }
 
-pub fn put_hold(t: Tape, s: Hold) -> Tape
-    ensures { λ r. ⌜ (shown r ≡ added t (wordsHold s)) × ((rest : List ℕ) → getHold (wordsHold s ++ rest) ≡ s) ⌝ }
+pub fn put_hold(tape: &mut [u32; 65], at: usize, s: Hold) -> usize
+    ensures { λ r. ⌜ Adds at (now (tape .entry)) (wordsHold s) r (now (tape .exit)) × ((rest : List ℕ) → getHold (wordsHold s ++ rest) ≡ s) ⌝ }
 {
     match s {
         Hold::Bits(bits_place, sync) => {
-            let t = word(t, 1);
-            let t = put_bits_place(t, bits_place);
-            let t = put_sync(t, sync);
-            zeros(t, 2)
+            let at = word(tape, at, 1);
+            let at = put_bits_place(tape, at, bits_place);
+            let at = put_sync(tape, at, sync);
+            zeros(tape, at, 2)
         },
         Hold::Token(token_place, command) => {
-            let t = word(t, 2);
-            let t = put_token_place(t, token_place);
-            put_command(t, command)
+            let at = word(tape, at, 2);
+            let at = put_token_place(tape, at, token_place);
+            put_command(tape, at, command)
         },
         Hold::Pausing(x) => {
-            let t = word(t, 3);
-            let t = word(t, x);
-            zeros(t, 22)
+            let at = word(tape, at, 3);
+            let at = word(tape, at, x);
+            zeros(tape, at, 22)
         },
     }
 }
@@ -218,24 +217,24 @@ pub fn get_hold(words: &[u32], at: usize) -> Hold
     }
 }
 
-pub fn put_body(t: Tape, s: Body) -> Tape
-    ensures { λ r. ⌜ (shown r ≡ added t (wordsBody s)) × ((rest : List ℕ) → getBody (wordsBody s ++ rest) ≡ s) ⌝ }
+pub fn put_body(tape: &mut [u32; 65], at: usize, s: Body) -> usize
+    ensures { λ r. ⌜ Adds at (now (tape .entry)) (wordsBody s) r (now (tape .exit)) × ((rest : List ℕ) → getBody (wordsBody s ++ rest) ≡ s) ⌝ }
 {
     match s {
         Body::Mdio(wanted, mdio) => {
-            let t = word(t, 1);
-            let t = put_wanted(t, wanted);
-            put_mdio(t, mdio)
+            let at = word(tape, at, 1);
+            let at = put_wanted(tape, at, wanted);
+            put_mdio(tape, at, mdio)
         },
         Body::Kr(kr_wanted, kr) => {
-            let t = word(t, 2);
-            let t = put_kr_wanted(t, kr_wanted);
-            put_kr(t, kr)
+            let at = word(tape, at, 2);
+            let at = put_kr_wanted(tape, at, kr_wanted);
+            put_kr(tape, at, kr)
         },
         Body::Nvm(nvm) => {
-            let t = word(t, 3);
-            let t = put_nvm(t, nvm);
-            zeros(t, 2)
+            let at = word(tape, at, 3);
+            let at = put_nvm(tape, at, nvm);
+            zeros(tape, at, 2)
         },
     }
 }
@@ -259,19 +258,19 @@ pub fn get_body(words: &[u32], at: usize) -> Body
     }
 }
 
-pub fn put_locked(t: Tape, s: Locked) -> Tape
-    ensures { λ r. ⌜ (shown r ≡ added t (wordsLocked s)) × ((rest : List ℕ) → getLocked (wordsLocked s ++ rest) ≡ s) ⌝ }
+pub fn put_locked(tape: &mut [u32; 65], at: usize, s: Locked) -> usize
+    ensures { λ r. ⌜ Adds at (now (tape .entry)) (wordsLocked s) r (now (tape .exit)) × ((rest : List ℕ) → getLocked (wordsLocked s ++ rest) ≡ s) ⌝ }
 {
     match s {
         Locked::Hold(hold_place, hold) => {
-            let t = word(t, 1);
-            let t = put_hold_place(t, hold_place);
-            put_hold(t, hold)
+            let at = word(tape, at, 1);
+            let at = put_hold_place(tape, at, hold_place);
+            put_hold(tape, at, hold)
         },
         Locked::Body(body) => {
-            let t = word(t, 2);
-            let t = put_body(t, body);
-            zeros(t, 23)
+            let at = word(tape, at, 2);
+            let at = put_body(tape, at, body);
+            zeros(tape, at, 23)
         },
     }
 }
@@ -290,32 +289,32 @@ pub fn get_locked(words: &[u32], at: usize) -> Locked
     }
 }
 
-pub fn put_access(t: Tape, s: Access) -> Tape
-    ensures { λ r. ⌜ (shown r ≡ added t (wordsAccess s)) × ((rest : List ℕ) → getAccess (wordsAccess s ++ rest) ≡ s) ⌝ }
+pub fn put_access(tape: &mut [u32; 65], at: usize, s: Access) -> usize
+    ensures { λ r. ⌜ Adds at (now (tape .entry)) (wordsAccess s) r (now (tape .exit)) × ((rest : List ℕ) → getAccess (wordsAccess s ++ rest) ≡ s) ⌝ }
 {
     match s {
         Access::Reading => {
-            let t = word(t, 1);
-            zeros(t, 33)
+            let at = word(tape, at, 1);
+            zeros(tape, at, 33)
         },
         Access::Writing => {
-            let t = word(t, 2);
-            zeros(t, 33)
+            let at = word(tape, at, 2);
+            zeros(tape, at, 33)
         },
         Access::Waiting => {
-            let t = word(t, 3);
-            zeros(t, 33)
+            let at = word(tape, at, 3);
+            zeros(tape, at, 33)
         },
         Access::Command(x, command) => {
-            let t = word(t, 4);
-            let t = long(t, x);
-            let t = put_command(t, command);
-            zeros(t, 10)
+            let at = word(tape, at, 4);
+            let at = long(tape, at, x);
+            let at = put_command(tape, at, command);
+            zeros(tape, at, 10)
         },
         Access::Under(x, locked) => {
-            let t = word(t, 5);
-            let t = word(t, x);
-            put_locked(t, locked)
+            let at = word(tape, at, 5);
+            let at = word(tape, at, x);
+            put_locked(tape, at, locked)
         },
     }
 }

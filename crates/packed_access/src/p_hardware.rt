@@ -2,7 +2,6 @@
 use crate::read::after;
 use crate::read::byte;
 use crate::read::word_at;
-use crate::tape::Tape;
 use crate::tape::wide_byte;
 use crate::tape::word;
 use crate::tape::zeros;
@@ -15,21 +14,21 @@ ghost use mathlib.Core.Path.{_≡_};
 ghost use Prim.Native.Nat.{ℕ};
 ghost use mathlib.Core.List.{List, _++_};
 ghost use lib.ListN.{drop};
-ghost use Rattle.packed_access.specs.Tape.{shown, added};
+ghost use Rattle.packed_access.specs.Tape.{Adds};
 ghost use Rattle.packed_access.specs.Hardware.{getAction, getError, getFamily, getUnit, getWord, wordsAction, wordsError, wordsFamily, wordsUnit, wordsWord};
 
-pub fn put_error(t: Tape, s: Error) -> Tape
-    ensures { λ r. ⌜ (shown r ≡ added t (wordsError s)) × ((rest : List ℕ) → getError (wordsError s ++ rest) ≡ s) ⌝ }
+pub fn put_error(tape: &mut [u32; 65], at: usize, s: Error) -> usize
+    ensures { λ r. ⌜ Adds at (now (tape .entry)) (wordsError s) r (now (tape .exit)) × ((rest : List ℕ) → getError (wordsError s ++ rest) ≡ s) ⌝ }
 {
     match s {
         Error::Io(x) => {
-            let t = word(t, 1);
-            let t = word(t, x);
-            zeros(t, 3)
+            let at = word(tape, at, 1);
+            let at = word(tape, at, x);
+            zeros(tape, at, 3)
         },
         Error::Removed => {
-            let t = word(t, 2);
-            zeros(t, 4)
+            let at = word(tape, at, 2);
+            zeros(tape, at, 4)
         },
         Error::Timeout {
             register,
@@ -37,57 +36,57 @@ pub fn put_error(t: Tape, s: Error) -> Tape
             expected,
             last,
         } => {
-            let t = word(t, 3);
-            let t = word(t, register);
-            let t = word(t, mask);
-            let t = word(t, expected);
-            word(t, last)
+            let at = word(tape, at, 3);
+            let at = word(tape, at, register);
+            let at = word(tape, at, mask);
+            let at = word(tape, at, expected);
+            word(tape, at, last)
         },
         Error::Sideband { address, ctrl } => {
-            let t = word(t, 4);
-            let t = word(t, address);
-            let t = word(t, ctrl);
-            zeros(t, 2)
+            let at = word(tape, at, 4);
+            let at = word(tape, at, address);
+            let at = word(tape, at, ctrl);
+            zeros(tape, at, 2)
         },
         Error::Semaphore { held } => {
-            let t = word(t, 5);
-            let t = word(t, held);
-            zeros(t, 3)
+            let at = word(tape, at, 5);
+            let at = word(tape, at, held);
+            zeros(tape, at, 3)
         },
         Error::HostInterface { hicr } => {
-            let t = word(t, 6);
-            let t = word(t, hicr);
-            zeros(t, 3)
+            let at = word(tape, at, 6);
+            let at = word(tape, at, hicr);
+            zeros(tape, at, 3)
         },
         Error::Firmware { command, status } => {
-            let t = word(t, 7);
-            let t = word(t, wide_byte(command));
-            let t = word(t, wide_byte(status));
-            zeros(t, 2)
+            let at = word(tape, at, 7);
+            let at = word(tape, at, wide_byte(command));
+            let at = word(tape, at, wide_byte(status));
+            zeros(tape, at, 2)
         },
         Error::NoPhy => {
-            let t = word(t, 8);
-            zeros(t, 4)
+            let at = word(tape, at, 8);
+            zeros(tape, at, 4)
         },
         Error::PhyReset => {
-            let t = word(t, 9);
-            zeros(t, 4)
+            let at = word(tape, at, 9);
+            zeros(tape, at, 4)
         },
         Error::Lan => {
-            let t = word(t, 10);
-            zeros(t, 4)
+            let at = word(tape, at, 10);
+            zeros(tape, at, 4)
         },
         Error::Fiber => {
-            let t = word(t, 11);
-            zeros(t, 4)
+            let at = word(tape, at, 11);
+            zeros(tape, at, 4)
         },
         Error::Address => {
-            let t = word(t, 12);
-            zeros(t, 4)
+            let at = word(tape, at, 12);
+            zeros(tape, at, 4)
         },
         Error::Block => {
-            let t = word(t, 13);
-            zeros(t, 4)
+            let at = word(tape, at, 13);
+            zeros(tape, at, 4)
         },
     }
 }
@@ -140,24 +139,24 @@ pub fn get_error(words: &[u32], at: usize) -> Error
     }
 }
 
-pub fn put_action(t: Tape, s: Action) -> Tape
-    ensures { λ r. ⌜ (shown r ≡ added t (wordsAction s)) × ((rest : List ℕ) → getAction (wordsAction s ++ rest) ≡ s) ⌝ }
+pub fn put_action(tape: &mut [u32; 65], at: usize, s: Action) -> usize
+    ensures { λ r. ⌜ Adds at (now (tape .entry)) (wordsAction s) r (now (tape .exit)) × ((rest : List ℕ) → getAction (wordsAction s ++ rest) ≡ s) ⌝ }
 {
     match s {
         Action::Read(x) => {
-            let t = word(t, 1);
-            let t = word(t, x);
-            word(t, 0)
+            let at = word(tape, at, 1);
+            let at = word(tape, at, x);
+            word(tape, at, 0)
         },
         Action::Write(x, y) => {
-            let t = word(t, 2);
-            let t = word(t, x);
-            word(t, y)
+            let at = word(tape, at, 2);
+            let at = word(tape, at, x);
+            word(tape, at, y)
         },
         Action::Wait(x) => {
-            let t = word(t, 3);
-            let t = word(t, x);
-            word(t, 0)
+            let at = word(tape, at, 3);
+            let at = word(tape, at, x);
+            word(tape, at, 0)
         },
     }
 }
@@ -175,12 +174,12 @@ pub fn get_action(words: &[u32], at: usize) -> Action
     }
 }
 
-pub fn put_family(t: Tape, s: Family) -> Tape
-    ensures { λ r. ⌜ (shown r ≡ added t (wordsFamily s)) × ((rest : List ℕ) → getFamily (wordsFamily s ++ rest) ≡ s) ⌝ }
+pub fn put_family(tape: &mut [u32; 65], at: usize, s: Family) -> usize
+    ensures { λ r. ⌜ Adds at (now (tape .entry)) (wordsFamily s) r (now (tape .exit)) × ((rest : List ℕ) → getFamily (wordsFamily s ++ rest) ≡ s) ⌝ }
 {
     match s {
-        Family::X552 => word(t, 1),
-        Family::X553 => word(t, 2),
+        Family::X552 => word(tape, at, 1),
+        Family::X553 => word(tape, at, 2),
     }
 }
 
@@ -195,18 +194,18 @@ pub fn get_family(words: &[u32], at: usize) -> Family
     }
 }
 
-pub fn put_word(t: Tape, s: Word) -> Tape
-    ensures { λ r. ⌜ (shown r ≡ added t (wordsWord s)) × ((rest : List ℕ) → getWord (wordsWord s ++ rest) ≡ s) ⌝ }
+pub fn put_word(tape: &mut [u32; 65], at: usize, s: Word) -> usize
+    ensures { λ r. ⌜ Adds at (now (tape .entry)) (wordsWord s) r (now (tape .exit)) × ((rest : List ℕ) → getWord (wordsWord s ++ rest) ≡ s) ⌝ }
 {
     match s {
         Word::Ok(x) => {
-            let t = word(t, 1);
-            let t = word(t, x);
-            zeros(t, 4)
+            let at = word(tape, at, 1);
+            let at = word(tape, at, x);
+            zeros(tape, at, 4)
         },
         Word::Err(error) => {
-            let t = word(t, 2);
-            put_error(t, error)
+            let at = word(tape, at, 2);
+            put_error(tape, at, error)
         },
     }
 }
@@ -222,17 +221,17 @@ pub fn get_word(words: &[u32], at: usize) -> Word
     }
 }
 
-pub fn put_unit(t: Tape, s: Unit) -> Tape
-    ensures { λ r. ⌜ (shown r ≡ added t (wordsUnit s)) × ((rest : List ℕ) → getUnit (wordsUnit s ++ rest) ≡ s) ⌝ }
+pub fn put_unit(tape: &mut [u32; 65], at: usize, s: Unit) -> usize
+    ensures { λ r. ⌜ Adds at (now (tape .entry)) (wordsUnit s) r (now (tape .exit)) × ((rest : List ℕ) → getUnit (wordsUnit s ++ rest) ≡ s) ⌝ }
 {
     match s {
         Unit::Ok => {
-            let t = word(t, 1);
-            zeros(t, 5)
+            let at = word(tape, at, 1);
+            zeros(tape, at, 5)
         },
         Unit::Err(error) => {
-            let t = word(t, 2);
-            put_error(t, error)
+            let at = word(tape, at, 2);
+            put_error(tape, at, error)
         },
     }
 }

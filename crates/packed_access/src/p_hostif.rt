@@ -9,7 +9,6 @@ use crate::read::after;
 use crate::read::is;
 use crate::read::joined;
 use crate::read::word_at;
-use crate::tape::Tape;
 use crate::tape::flag;
 use crate::tape::long;
 use crate::tape::word;
@@ -23,20 +22,20 @@ ghost use mathlib.Core.Path.{_≡_};
 ghost use Prim.Native.Nat.{ℕ};
 ghost use mathlib.Core.List.{List, _++_};
 ghost use lib.ListN.{drop};
-ghost use Rattle.packed_access.specs.Tape.{shown, added};
+ghost use Rattle.packed_access.specs.Tape.{Adds};
 ghost use Rattle.packed_access.specs.Hostif.{getCommand, getCommandPlace, getExchange, getFlag, getPost, wordsCommand, wordsCommandPlace, wordsExchange, wordsFlag, wordsPost};
 
-pub fn put_command_place(t: Tape, s: CommandPlace) -> Tape
-    ensures { λ r. ⌜ (shown r ≡ added t (wordsCommandPlace s)) × ((rest : List ℕ) → getCommandPlace (wordsCommandPlace s ++ rest) ≡ s) ⌝ }
+pub fn put_command_place(tape: &mut [u32; 65], at: usize, s: CommandPlace) -> usize
+    ensures { λ r. ⌜ Adds at (now (tape .entry)) (wordsCommandPlace s) r (now (tape .exit)) × ((rest : List ℕ) → getCommandPlace (wordsCommandPlace s ++ rest) ≡ s) ⌝ }
 {
     match s {
         CommandPlace::Acquiring => {
-            let t = word(t, 1);
-            zeros(t, 6)
+            let at = word(tape, at, 1);
+            zeros(tape, at, 6)
         },
         CommandPlace::Releasing(x) => {
-            let t = word(t, 2);
-            put_word(t, x)
+            let at = word(tape, at, 2);
+            put_word(tape, at, x)
         },
     }
 }
@@ -52,42 +51,42 @@ pub fn get_command_place(words: &[u32], at: usize) -> CommandPlace
     }
 }
 
-pub fn put_post(t: Tape, s: Post) -> Tape
-    ensures { λ r. ⌜ (shown r ≡ added t (wordsPost s)) × ((rest : List ℕ) → getPost (wordsPost s ++ rest) ≡ s) ⌝ }
+pub fn put_post(tape: &mut [u32; 65], at: usize, s: Post) -> usize
+    ensures { λ r. ⌜ Adds at (now (tape .entry)) (wordsPost s) r (now (tape .exit)) × ((rest : List ℕ) → getPost (wordsPost s ++ rest) ≡ s) ⌝ }
 {
     match s {
         Post::Fwsts => {
-            let t = word(t, 1);
-            zeros(t, 3)
+            let at = word(tape, at, 1);
+            zeros(tape, at, 3)
         },
         Post::Fwri => {
-            let t = word(t, 2);
-            zeros(t, 3)
+            let at = word(tape, at, 2);
+            zeros(tape, at, 3)
         },
         Post::Hicr => {
-            let t = word(t, 3);
-            zeros(t, 3)
+            let at = word(tape, at, 3);
+            zeros(tape, at, 3)
         },
         Post::Writing(x, y) => {
-            let t = word(t, 4);
-            let t = word(t, x);
-            long(t, y)
+            let at = word(tape, at, 4);
+            let at = word(tape, at, x);
+            long(tape, at, y)
         },
         Post::Started(x) => {
-            let t = word(t, 5);
-            let t = word(t, x);
-            zeros(t, 2)
+            let at = word(tape, at, 5);
+            let at = word(tape, at, x);
+            zeros(tape, at, 2)
         },
         Post::Polling(x) => {
-            let t = word(t, 6);
-            let t = word(t, x);
-            zeros(t, 2)
+            let at = word(tape, at, 6);
+            let at = word(tape, at, x);
+            zeros(tape, at, 2)
         },
         Post::Pausing(x, y) => {
-            let t = word(t, 7);
-            let t = word(t, x);
-            let t = word(t, y);
-            word(t, 0)
+            let at = word(tape, at, 7);
+            let at = word(tape, at, x);
+            let at = word(tape, at, y);
+            word(tape, at, 0)
         },
     }
 }
@@ -116,24 +115,24 @@ pub fn get_post(words: &[u32], at: usize) -> Post
     }
 }
 
-pub fn put_exchange(t: Tape, s: Exchange) -> Tape
-    ensures { λ r. ⌜ (shown r ≡ added t (wordsExchange s)) × ((rest : List ℕ) → getExchange (wordsExchange s ++ rest) ≡ s) ⌝ }
+pub fn put_exchange(tape: &mut [u32; 65], at: usize, s: Exchange) -> usize
+    ensures { λ r. ⌜ Adds at (now (tape .entry)) (wordsExchange s) r (now (tape .exit)) × ((rest : List ℕ) → getExchange (wordsExchange s ++ rest) ≡ s) ⌝ }
 {
     match s {
         Exchange::Post(post) => {
-            let t = word(t, 1);
-            put_post(t, post)
+            let at = word(tape, at, 1);
+            put_post(tape, at, post)
         },
         Exchange::Head(x) => {
-            let t = word(t, 2);
-            let t = word(t, x);
-            zeros(t, 3)
+            let at = word(tape, at, 2);
+            let at = word(tape, at, x);
+            zeros(tape, at, 3)
         },
         Exchange::Rest(x, y, z) => {
-            let t = word(t, 3);
-            let t = word(t, x);
-            let t = long(t, y);
-            word(t, z)
+            let at = word(tape, at, 3);
+            let at = word(tape, at, x);
+            let at = long(tape, at, y);
+            word(tape, at, z)
         },
     }
 }
@@ -155,19 +154,19 @@ pub fn get_exchange(words: &[u32], at: usize) -> Exchange
     }
 }
 
-pub fn put_command(t: Tape, s: Command) -> Tape
-    ensures { λ r. ⌜ (shown r ≡ added t (wordsCommand s)) × ((rest : List ℕ) → getCommand (wordsCommand s ++ rest) ≡ s) ⌝ }
+pub fn put_command(tape: &mut [u32; 65], at: usize, s: Command) -> usize
+    ensures { λ r. ⌜ Adds at (now (tape .entry)) (wordsCommand s) r (now (tape .exit)) × ((rest : List ℕ) → getCommand (wordsCommand s ++ rest) ≡ s) ⌝ }
 {
     match s {
         Command::Sync(command_place, sync) => {
-            let t = word(t, 1);
-            let t = put_command_place(t, command_place);
-            put_sync(t, sync)
+            let at = word(tape, at, 1);
+            let at = put_command_place(tape, at, command_place);
+            put_sync(tape, at, sync)
         },
         Command::Body(exchange) => {
-            let t = word(t, 2);
-            let t = put_exchange(t, exchange);
-            zeros(t, 15)
+            let at = word(tape, at, 2);
+            let at = put_exchange(tape, at, exchange);
+            zeros(tape, at, 15)
         },
     }
 }
@@ -186,18 +185,18 @@ pub fn get_command(words: &[u32], at: usize) -> Command
     }
 }
 
-pub fn put_flag(t: Tape, s: Flag) -> Tape
-    ensures { λ r. ⌜ (shown r ≡ added t (wordsFlag s)) × ((rest : List ℕ) → getFlag (wordsFlag s ++ rest) ≡ s) ⌝ }
+pub fn put_flag(tape: &mut [u32; 65], at: usize, s: Flag) -> usize
+    ensures { λ r. ⌜ Adds at (now (tape .entry)) (wordsFlag s) r (now (tape .exit)) × ((rest : List ℕ) → getFlag (wordsFlag s ++ rest) ≡ s) ⌝ }
 {
     match s {
         Flag::Ok(x) => {
-            let t = word(t, 1);
-            let t = flag(t, x);
-            zeros(t, 4)
+            let at = word(tape, at, 1);
+            let at = flag(tape, at, x);
+            zeros(tape, at, 4)
         },
         Flag::Err(error) => {
-            let t = word(t, 2);
-            put_error(t, error)
+            let at = word(tape, at, 2);
+            put_error(tape, at, error)
         },
     }
 }

@@ -2,7 +2,6 @@
 use crate::read::after;
 use crate::read::half;
 use crate::read::word_at;
-use crate::tape::Tape;
 use crate::tape::wide;
 use crate::tape::word;
 use crate::tape::zeros;
@@ -14,22 +13,22 @@ ghost use mathlib.Core.Path.{_≡_};
 ghost use Prim.Native.Nat.{ℕ};
 ghost use mathlib.Core.List.{List, _++_};
 ghost use lib.ListN.{drop};
-ghost use Rattle.packed_access.specs.Tape.{shown, added};
+ghost use Rattle.packed_access.specs.Tape.{Adds};
 ghost use Rattle.packed_access.specs.Mdio.{getCycle, getMdio, getMdioPlace, getWanted, wordsCycle, wordsMdio, wordsMdioPlace, wordsWanted};
 
-pub fn put_wanted(t: Tape, s: Wanted) -> Tape
-    ensures { λ r. ⌜ (shown r ≡ added t (wordsWanted s)) × ((rest : List ℕ) → getWanted (wordsWanted s ++ rest) ≡ s) ⌝ }
+pub fn put_wanted(tape: &mut [u32; 65], at: usize, s: Wanted) -> usize
+    ensures { λ r. ⌜ Adds at (now (tape .entry)) (wordsWanted s) r (now (tape .exit)) × ((rest : List ℕ) → getWanted (wordsWanted s ++ rest) ≡ s) ⌝ }
 {
     match s {
         Wanted::Read(x) => {
-            let t = word(t, 1);
-            let t = word(t, x);
-            word(t, 0)
+            let at = word(tape, at, 1);
+            let at = word(tape, at, x);
+            word(tape, at, 0)
         },
         Wanted::Write(x, y) => {
-            let t = word(t, 2);
-            let t = word(t, x);
-            word(t, wide(y))
+            let at = word(tape, at, 2);
+            let at = word(tape, at, x);
+            word(tape, at, wide(y))
         },
     }
 }
@@ -45,12 +44,12 @@ pub fn get_wanted(words: &[u32], at: usize) -> Wanted
     }
 }
 
-pub fn put_mdio_place(t: Tape, s: MdioPlace) -> Tape
-    ensures { λ r. ⌜ (shown r ≡ added t (wordsMdioPlace s)) × ((rest : List ℕ) → getMdioPlace (wordsMdioPlace s ++ rest) ≡ s) ⌝ }
+pub fn put_mdio_place(tape: &mut [u32; 65], at: usize, s: MdioPlace) -> usize
+    ensures { λ r. ⌜ Adds at (now (tape .entry)) (wordsMdioPlace s) r (now (tape .exit)) × ((rest : List ℕ) → getMdioPlace (wordsMdioPlace s ++ rest) ≡ s) ⌝ }
 {
     match s {
-        MdioPlace::Address => word(t, 1),
-        MdioPlace::Operation => word(t, 2),
+        MdioPlace::Address => word(tape, at, 1),
+        MdioPlace::Operation => word(tape, at, 2),
     }
 }
 
@@ -65,21 +64,21 @@ pub fn get_mdio_place(words: &[u32], at: usize) -> MdioPlace
     }
 }
 
-pub fn put_cycle(t: Tape, s: Cycle) -> Tape
-    ensures { λ r. ⌜ (shown r ≡ added t (wordsCycle s)) × ((rest : List ℕ) → getCycle (wordsCycle s ++ rest) ≡ s) ⌝ }
+pub fn put_cycle(tape: &mut [u32; 65], at: usize, s: Cycle) -> usize
+    ensures { λ r. ⌜ Adds at (now (tape .entry)) (wordsCycle s) r (now (tape .exit)) × ((rest : List ℕ) → getCycle (wordsCycle s ++ rest) ≡ s) ⌝ }
 {
     match s {
         Cycle::Starting => {
-            let t = word(t, 1);
-            word(t, 0)
+            let at = word(tape, at, 1);
+            word(tape, at, 0)
         },
         Cycle::Waiting(x) => {
-            let t = word(t, 2);
-            word(t, x)
+            let at = word(tape, at, 2);
+            word(tape, at, x)
         },
         Cycle::Reading(x) => {
-            let t = word(t, 3);
-            word(t, x)
+            let at = word(tape, at, 3);
+            word(tape, at, x)
         },
     }
 }
@@ -97,22 +96,22 @@ pub fn get_cycle(words: &[u32], at: usize) -> Cycle
     }
 }
 
-pub fn put_mdio(t: Tape, s: Mdio) -> Tape
-    ensures { λ r. ⌜ (shown r ≡ added t (wordsMdio s)) × ((rest : List ℕ) → getMdio (wordsMdio s ++ rest) ≡ s) ⌝ }
+pub fn put_mdio(tape: &mut [u32; 65], at: usize, s: Mdio) -> usize
+    ensures { λ r. ⌜ Adds at (now (tape .entry)) (wordsMdio s) r (now (tape .exit)) × ((rest : List ℕ) → getMdio (wordsMdio s ++ rest) ≡ s) ⌝ }
 {
     match s {
         Mdio::Value => {
-            let t = word(t, 1);
-            zeros(t, 3)
+            let at = word(tape, at, 1);
+            zeros(tape, at, 3)
         },
         Mdio::Cycling(mdio_place, cycle) => {
-            let t = word(t, 2);
-            let t = put_mdio_place(t, mdio_place);
-            put_cycle(t, cycle)
+            let at = word(tape, at, 2);
+            let at = put_mdio_place(tape, at, mdio_place);
+            put_cycle(tape, at, cycle)
         },
         Mdio::Data => {
-            let t = word(t, 3);
-            zeros(t, 3)
+            let at = word(tape, at, 3);
+            zeros(tape, at, 3)
         },
     }
 }

@@ -3,7 +3,6 @@ use crate::p_hostif::get_post;
 use crate::p_hostif::put_post;
 use crate::read::after;
 use crate::read::word_at;
-use crate::tape::Tape;
 use crate::tape::word;
 use crate::tape::zeros;
 use sideband::idle::Idle;
@@ -14,22 +13,22 @@ ghost use mathlib.Core.Path.{_≡_};
 ghost use Prim.Native.Nat.{ℕ};
 ghost use mathlib.Core.List.{List, _++_};
 ghost use lib.ListN.{drop};
-ghost use Rattle.packed_access.specs.Tape.{shown, added};
+ghost use Rattle.packed_access.specs.Tape.{Adds};
 ghost use Rattle.packed_access.specs.Sideband.{getIdle, getKr, getKrWanted, getNvm, wordsIdle, wordsKr, wordsKrWanted, wordsNvm};
 
-pub fn put_kr_wanted(t: Tape, s: KrWanted) -> Tape
-    ensures { λ r. ⌜ (shown r ≡ added t (wordsKrWanted s)) × ((rest : List ℕ) → getKrWanted (wordsKrWanted s ++ rest) ≡ s) ⌝ }
+pub fn put_kr_wanted(tape: &mut [u32; 65], at: usize, s: KrWanted) -> usize
+    ensures { λ r. ⌜ Adds at (now (tape .entry)) (wordsKrWanted s) r (now (tape .exit)) × ((rest : List ℕ) → getKrWanted (wordsKrWanted s ++ rest) ≡ s) ⌝ }
 {
     match s {
         KrWanted::Read(x) => {
-            let t = word(t, 1);
-            let t = word(t, x);
-            word(t, 0)
+            let at = word(tape, at, 1);
+            let at = word(tape, at, x);
+            word(tape, at, 0)
         },
         KrWanted::Write(x, y) => {
-            let t = word(t, 2);
-            let t = word(t, x);
-            word(t, y)
+            let at = word(tape, at, 2);
+            let at = word(tape, at, x);
+            word(tape, at, y)
         },
     }
 }
@@ -45,19 +44,19 @@ pub fn get_kr_wanted(words: &[u32], at: usize) -> KrWanted
     }
 }
 
-pub fn put_idle(t: Tape, s: Idle) -> Tape
-    ensures { λ r. ⌜ (shown r ≡ added t (wordsIdle s)) × ((rest : List ℕ) → getIdle (wordsIdle s ++ rest) ≡ s) ⌝ }
+pub fn put_idle(tape: &mut [u32; 65], at: usize, s: Idle) -> usize
+    ensures { λ r. ⌜ Adds at (now (tape .entry)) (wordsIdle s) r (now (tape .exit)) × ((rest : List ℕ) → getIdle (wordsIdle s ++ rest) ≡ s) ⌝ }
 {
     match s {
         Idle::Reading(x) => {
-            let t = word(t, 1);
-            let t = word(t, x);
-            word(t, 0)
+            let at = word(tape, at, 1);
+            let at = word(tape, at, x);
+            word(tape, at, 0)
         },
         Idle::Waiting(x, y) => {
-            let t = word(t, 2);
-            let t = word(t, x);
-            word(t, y)
+            let at = word(tape, at, 2);
+            let at = word(tape, at, x);
+            word(tape, at, y)
         },
     }
 }
@@ -73,25 +72,25 @@ pub fn get_idle(words: &[u32], at: usize) -> Idle
     }
 }
 
-pub fn put_kr(t: Tape, s: Kr) -> Tape
-    ensures { λ r. ⌜ (shown r ≡ added t (wordsKr s)) × ((rest : List ℕ) → getKr (wordsKr s ++ rest) ≡ s) ⌝ }
+pub fn put_kr(tape: &mut [u32; 65], at: usize, s: Kr) -> usize
+    ensures { λ r. ⌜ Adds at (now (tape .entry)) (wordsKr s) r (now (tape .exit)) × ((rest : List ℕ) → getKr (wordsKr s ++ rest) ≡ s) ⌝ }
 {
     match s {
         Kr::First(idle) => {
-            let t = word(t, 1);
-            put_idle(t, idle)
+            let at = word(tape, at, 1);
+            put_idle(tape, at, idle)
         },
         Kr::Select => {
-            let t = word(t, 2);
-            zeros(t, 3)
+            let at = word(tape, at, 2);
+            zeros(tape, at, 3)
         },
         Kr::Second(idle) => {
-            let t = word(t, 3);
-            put_idle(t, idle)
+            let at = word(tape, at, 3);
+            put_idle(tape, at, idle)
         },
         Kr::Data => {
-            let t = word(t, 4);
-            zeros(t, 3)
+            let at = word(tape, at, 4);
+            zeros(tape, at, 3)
         },
     }
 }
@@ -111,17 +110,17 @@ pub fn get_kr(words: &[u32], at: usize) -> Kr
     }
 }
 
-pub fn put_nvm(t: Tape, s: Nvm) -> Tape
-    ensures { λ r. ⌜ (shown r ≡ added t (wordsNvm s)) × ((rest : List ℕ) → getNvm (wordsNvm s ++ rest) ≡ s) ⌝ }
+pub fn put_nvm(tape: &mut [u32; 65], at: usize, s: Nvm) -> usize
+    ensures { λ r. ⌜ Adds at (now (tape .entry)) (wordsNvm s) r (now (tape .exit)) × ((rest : List ℕ) → getNvm (wordsNvm s ++ rest) ≡ s) ⌝ }
 {
     match s {
         Nvm::Post(post) => {
-            let t = word(t, 1);
-            put_post(t, post)
+            let at = word(tape, at, 1);
+            put_post(tape, at, post)
         },
         Nvm::Data => {
-            let t = word(t, 2);
-            zeros(t, 4)
+            let at = word(tape, at, 2);
+            zeros(tape, at, 4)
         },
     }
 }

@@ -4,7 +4,6 @@ use crate::p_hardware::put_unit;
 use crate::read::after;
 use crate::read::is;
 use crate::read::word_at;
-use crate::tape::Tape;
 use crate::tape::flag;
 use crate::tape::word;
 use crate::tape::zeros;
@@ -21,20 +20,20 @@ ghost use mathlib.Core.Path.{_≡_};
 ghost use Prim.Native.Nat.{ℕ};
 ghost use mathlib.Core.List.{List, _++_};
 ghost use lib.ListN.{drop};
-ghost use Rattle.packed_access.specs.Tape.{shown, added};
+ghost use Rattle.packed_access.specs.Tape.{Adds};
 ghost use Rattle.packed_access.specs.Sync.{getAcquireBits, getClear, getLock, getReleaseBits, getSetMux, getSmbi, getSync, getUnlock, wordsAcquireBits, wordsClear, wordsLock, wordsReleaseBits, wordsSetMux, wordsSmbi, wordsSync, wordsUnlock};
 
-pub fn put_smbi(t: Tape, s: Smbi) -> Tape
-    ensures { λ r. ⌜ (shown r ≡ added t (wordsSmbi s)) × ((rest : List ℕ) → getSmbi (wordsSmbi s ++ rest) ≡ s) ⌝ }
+pub fn put_smbi(tape: &mut [u32; 65], at: usize, s: Smbi) -> usize
+    ensures { λ r. ⌜ Adds at (now (tape .entry)) (wordsSmbi s) r (now (tape .exit)) × ((rest : List ℕ) → getSmbi (wordsSmbi s ++ rest) ≡ s) ⌝ }
 {
     match s {
         Smbi::Reading(x) => {
-            let t = word(t, 1);
-            word(t, x)
+            let at = word(tape, at, 1);
+            word(tape, at, x)
         },
         Smbi::Waiting(x) => {
-            let t = word(t, 2);
-            word(t, x)
+            let at = word(tape, at, 2);
+            word(tape, at, x)
         },
     }
 }
@@ -50,12 +49,12 @@ pub fn get_smbi(words: &[u32], at: usize) -> Smbi
     }
 }
 
-pub fn put_clear(t: Tape, s: Clear) -> Tape
-    ensures { λ r. ⌜ (shown r ≡ added t (wordsClear s)) × ((rest : List ℕ) → getClear (wordsClear s ++ rest) ≡ s) ⌝ }
+pub fn put_clear(tape: &mut [u32; 65], at: usize, s: Clear) -> usize
+    ensures { λ r. ⌜ Adds at (now (tape .entry)) (wordsClear s) r (now (tape .exit)) × ((rest : List ℕ) → getClear (wordsClear s ++ rest) ≡ s) ⌝ }
 {
     match s {
-        Clear::Reading => word(t, 1),
-        Clear::Writing => word(t, 2),
+        Clear::Reading => word(tape, at, 1),
+        Clear::Writing => word(tape, at, 2),
     }
 }
 
@@ -70,32 +69,32 @@ pub fn get_clear(words: &[u32], at: usize) -> Clear
     }
 }
 
-pub fn put_lock(t: Tape, s: Lock) -> Tape
-    ensures { λ r. ⌜ (shown r ≡ added t (wordsLock s)) × ((rest : List ℕ) → getLock (wordsLock s ++ rest) ≡ s) ⌝ }
+pub fn put_lock(tape: &mut [u32; 65], at: usize, s: Lock) -> usize
+    ensures { λ r. ⌜ Adds at (now (tape .entry)) (wordsLock s) r (now (tape .exit)) × ((rest : List ℕ) → getLock (wordsLock s ++ rest) ≡ s) ⌝ }
 {
     match s {
         Lock::Smbi(smbi) => {
-            let t = word(t, 1);
-            put_smbi(t, smbi)
+            let at = word(tape, at, 1);
+            put_smbi(tape, at, smbi)
         },
         Lock::Reading(x) => {
-            let t = word(t, 2);
-            let t = word(t, x);
-            word(t, 0)
+            let at = word(tape, at, 2);
+            let at = word(tape, at, x);
+            word(tape, at, 0)
         },
         Lock::Waiting(x) => {
-            let t = word(t, 3);
-            let t = word(t, x);
-            word(t, 0)
+            let at = word(tape, at, 3);
+            let at = word(tape, at, x);
+            word(tape, at, 0)
         },
         Lock::Clearing(clear) => {
-            let t = word(t, 4);
-            let t = put_clear(t, clear);
-            word(t, 0)
+            let at = word(tape, at, 4);
+            let at = put_clear(tape, at, clear);
+            word(tape, at, 0)
         },
         Lock::Flushing => {
-            let t = word(t, 5);
-            zeros(t, 2)
+            let at = word(tape, at, 5);
+            zeros(tape, at, 2)
         },
     }
 }
@@ -117,21 +116,21 @@ pub fn get_lock(words: &[u32], at: usize) -> Lock
     }
 }
 
-pub fn put_unlock(t: Tape, s: Unlock) -> Tape
-    ensures { λ r. ⌜ (shown r ≡ added t (wordsUnlock s)) × ((rest : List ℕ) → getUnlock (wordsUnlock s ++ rest) ≡ s) ⌝ }
+pub fn put_unlock(tape: &mut [u32; 65], at: usize, s: Unlock) -> usize
+    ensures { λ r. ⌜ Adds at (now (tape .entry)) (wordsUnlock s) r (now (tape .exit)) × ((rest : List ℕ) → getUnlock (wordsUnlock s ++ rest) ≡ s) ⌝ }
 {
     match s {
         Unlock::Sync(clear) => {
-            let t = word(t, 1);
-            put_clear(t, clear)
+            let at = word(tape, at, 1);
+            put_clear(tape, at, clear)
         },
         Unlock::Smbi(clear) => {
-            let t = word(t, 2);
-            put_clear(t, clear)
+            let at = word(tape, at, 2);
+            put_clear(tape, at, clear)
         },
         Unlock::Flushing => {
-            let t = word(t, 3);
-            word(t, 0)
+            let at = word(tape, at, 3);
+            word(tape, at, 0)
         },
     }
 }
@@ -149,13 +148,13 @@ pub fn get_unlock(words: &[u32], at: usize) -> Unlock
     }
 }
 
-pub fn put_set_mux(t: Tape, s: SetMux) -> Tape
-    ensures { λ r. ⌜ (shown r ≡ added t (wordsSetMux s)) × ((rest : List ℕ) → getSetMux (wordsSetMux s ++ rest) ≡ s) ⌝ }
+pub fn put_set_mux(tape: &mut [u32; 65], at: usize, s: SetMux) -> usize
+    ensures { λ r. ⌜ Adds at (now (tape .entry)) (wordsSetMux s) r (now (tape .exit)) × ((rest : List ℕ) → getSetMux (wordsSetMux s ++ rest) ≡ s) ⌝ }
 {
     match s {
-        SetMux::Reading => word(t, 1),
-        SetMux::Writing => word(t, 2),
-        SetMux::Flushing => word(t, 3),
+        SetMux::Reading => word(tape, at, 1),
+        SetMux::Writing => word(tape, at, 2),
+        SetMux::Flushing => word(tape, at, 3),
     }
 }
 
@@ -172,47 +171,47 @@ pub fn get_set_mux(words: &[u32], at: usize) -> SetMux
     }
 }
 
-pub fn put_acquire_bits(t: Tape, s: AcquireBits) -> Tape
-    ensures { λ r. ⌜ (shown r ≡ added t (wordsAcquireBits s)) × ((rest : List ℕ) → getAcquireBits (wordsAcquireBits s ++ rest) ≡ s) ⌝ }
+pub fn put_acquire_bits(tape: &mut [u32; 65], at: usize, s: AcquireBits) -> usize
+    ensures { λ r. ⌜ Adds at (now (tape .entry)) (wordsAcquireBits s) r (now (tape .exit)) × ((rest : List ℕ) → getAcquireBits (wordsAcquireBits s ++ rest) ≡ s) ⌝ }
 {
     match s {
         AcquireBits::Locking(x, lock) => {
-            let t = word(t, 1);
-            let t = word(t, x);
-            let t = put_lock(t, lock);
-            zeros(t, 4)
+            let at = word(tape, at, 1);
+            let at = word(tape, at, x);
+            let at = put_lock(tape, at, lock);
+            zeros(tape, at, 4)
         },
         AcquireBits::Reading(x) => {
-            let t = word(t, 2);
-            let t = word(t, x);
-            zeros(t, 7)
+            let at = word(tape, at, 2);
+            let at = word(tape, at, x);
+            zeros(tape, at, 7)
         },
         AcquireBits::Writing => {
-            let t = word(t, 3);
-            zeros(t, 8)
+            let at = word(tape, at, 3);
+            zeros(tape, at, 8)
         },
         AcquireBits::Ending(unit, unlock) => {
-            let t = word(t, 4);
-            let t = put_unit(t, unit);
-            put_unlock(t, unlock)
+            let at = word(tape, at, 4);
+            let at = put_unit(tape, at, unit);
+            put_unlock(tape, at, unlock)
         },
         AcquireBits::Held(x, y, unlock) => {
-            let t = word(t, 5);
-            let t = word(t, x);
-            let t = word(t, y);
-            let t = put_unlock(t, unlock);
-            zeros(t, 4)
+            let at = word(tape, at, 5);
+            let at = word(tape, at, x);
+            let at = word(tape, at, y);
+            let at = put_unlock(tape, at, unlock);
+            zeros(tape, at, 4)
         },
         AcquireBits::Waiting(x, y) => {
-            let t = word(t, 6);
-            let t = word(t, x);
-            let t = word(t, y);
-            zeros(t, 6)
+            let at = word(tape, at, 6);
+            let at = word(tape, at, x);
+            let at = word(tape, at, y);
+            zeros(tape, at, 6)
         },
         AcquireBits::Switching(set_mux) => {
-            let t = word(t, 7);
-            let t = put_set_mux(t, set_mux);
-            zeros(t, 7)
+            let at = word(tape, at, 7);
+            let at = put_set_mux(tape, at, set_mux);
+            zeros(tape, at, 7)
         },
     }
 }
@@ -245,33 +244,33 @@ pub fn get_acquire_bits(words: &[u32], at: usize) -> AcquireBits
     }
 }
 
-pub fn put_release_bits(t: Tape, s: ReleaseBits) -> Tape
-    ensures { λ r. ⌜ (shown r ≡ added t (wordsReleaseBits s)) × ((rest : List ℕ) → getReleaseBits (wordsReleaseBits s ++ rest) ≡ s) ⌝ }
+pub fn put_release_bits(tape: &mut [u32; 65], at: usize, s: ReleaseBits) -> usize
+    ensures { λ r. ⌜ Adds at (now (tape .entry)) (wordsReleaseBits s) r (now (tape .exit)) × ((rest : List ℕ) → getReleaseBits (wordsReleaseBits s ++ rest) ≡ s) ⌝ }
 {
     match s {
         ReleaseBits::Switching(set_mux) => {
-            let t = word(t, 1);
-            let t = put_set_mux(t, set_mux);
-            zeros(t, 7)
+            let at = word(tape, at, 1);
+            let at = put_set_mux(tape, at, set_mux);
+            zeros(tape, at, 7)
         },
         ReleaseBits::Locking(lock) => {
-            let t = word(t, 2);
-            let t = put_lock(t, lock);
-            zeros(t, 5)
+            let at = word(tape, at, 2);
+            let at = put_lock(tape, at, lock);
+            zeros(tape, at, 5)
         },
         ReleaseBits::Clearing(clear) => {
-            let t = word(t, 3);
-            let t = put_clear(t, clear);
-            zeros(t, 7)
+            let at = word(tape, at, 3);
+            let at = put_clear(tape, at, clear);
+            zeros(tape, at, 7)
         },
         ReleaseBits::Unlocking(unit, unlock) => {
-            let t = word(t, 4);
-            let t = put_unit(t, unit);
-            put_unlock(t, unlock)
+            let at = word(tape, at, 4);
+            let at = put_unit(tape, at, unit);
+            put_unlock(tape, at, unlock)
         },
         ReleaseBits::Waiting => {
-            let t = word(t, 5);
-            zeros(t, 8)
+            let at = word(tape, at, 5);
+            zeros(tape, at, 8)
         },
     }
 }
@@ -296,23 +295,23 @@ pub fn get_release_bits(words: &[u32], at: usize) -> ReleaseBits
     }
 }
 
-pub fn put_sync(t: Tape, s: Sync) -> Tape
-    ensures { λ r. ⌜ (shown r ≡ added t (wordsSync s)) × ((rest : List ℕ) → getSync (wordsSync s ++ rest) ≡ s) ⌝ }
+pub fn put_sync(tape: &mut [u32; 65], at: usize, s: Sync) -> usize
+    ensures { λ r. ⌜ Adds at (now (tape .entry)) (wordsSync s) r (now (tape .exit)) × ((rest : List ℕ) → getSync (wordsSync s ++ rest) ≡ s) ⌝ }
 {
     match s {
         Sync::Take(regs, y, acquire_bits) => {
-            let t = word(t, 1);
-            let t = word(t, regs.swsm);
-            let t = word(t, regs.sync);
-            let t = flag(t, y);
-            put_acquire_bits(t, acquire_bits)
+            let at = word(tape, at, 1);
+            let at = word(tape, at, regs.swsm);
+            let at = word(tape, at, regs.sync);
+            let at = flag(tape, at, y);
+            put_acquire_bits(tape, at, acquire_bits)
         },
         Sync::Give(regs, release_bits) => {
-            let t = word(t, 2);
-            let t = word(t, regs.swsm);
-            let t = word(t, regs.sync);
-            let t = put_release_bits(t, release_bits);
-            word(t, 0)
+            let at = word(tape, at, 2);
+            let at = word(tape, at, regs.swsm);
+            let at = word(tape, at, regs.sync);
+            let at = put_release_bits(tape, at, release_bits);
+            word(tape, at, 0)
         },
     }
 }

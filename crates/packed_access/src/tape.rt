@@ -1,64 +1,52 @@
-// Words written one behind the other.
+// Words written one behind the other, as far as there is room.
 ghost use mathlib.Core.Path.{_≡_};
 ghost use Prim.Native.Nat.{_%_, _/_};
 ghost use mathlib.Core.List.{[], _∷_};
 ghost use lib.ListN.{replicate};
-ghost use Rattle.packed_access.specs.Tape.{shown, added, flagOf};
+ghost use Rattle.packed_access.specs.Tape.{Adds, flagOf};
 
-// As many as a conversation has; those from `len` on mean nothing.
-pub struct Tape {
-    pub words: [u32; 65],
-    pub len: usize,
-}
-
-pub fn empty() -> Tape
-    ensures { λ r. ⌜ shown r ≡ [] ⌝ }
+// A word too many is left out; a conversation has none. The answer is the place behind it.
+pub fn word(tape: &mut [u32], at: usize, w: u32) -> usize
+    ensures { λ r. ⌜ Adds at (now (tape .entry)) (w ∷ []) r (now (tape .exit)) ⌝ }
 {
-    Tape {
-        words: [0; 65],
-        len: 0,
-    }
-}
-
-// A word too many is left out; a conversation has none.
-pub fn word(t: Tape, w: u32) -> Tape
-    ensures { λ r. ⌜ shown r ≡ added t (w ∷ []) ⌝ }
-{
-    let at = t.len;
-    if at < 65 {
-        let mut words = t.words;
-        words[at] = w;
-        Tape { words, len: at + 1 }
+    if at < tape.len() {
+        tape[at] = w;
+        at + 1
     } else {
-        t
+        at
     }
 }
 
-pub fn zeros(t: Tape, n: usize) -> Tape
-    ensures { λ r. ⌜ shown r ≡ added t (replicate n 0) ⌝ }
+pub fn zeros(tape: &mut [u32], at: usize, n: usize) -> usize
+    ensures { λ r. ⌜ Adds at (now (tape .entry)) (replicate n 0) r (now (tape .exit)) ⌝ }
 {
-    let mut to = t;
+    let mut to = at;
     let mut i = 0;
     while i < n {
-        to = word(to, 0);
+        to = word(tape, to, 0);
         i += 1;
     }
     to
 }
 
-pub fn flag(t: Tape, b: bool) -> Tape
-    ensures { λ r. ⌜ shown r ≡ added t (flagOf b ∷ []) ⌝ }
+pub fn flag(tape: &mut [u32], at: usize, b: bool) -> usize
+    ensures { λ r. ⌜ Adds at (now (tape .entry)) (flagOf b ∷ []) r (now (tape .exit)) ⌝ }
 {
-    if b { word(t, 1) } else { word(t, 0) }
+    if b {
+        word(tape, at, 1)
+    } else {
+        word(tape, at, 0)
+    }
 }
 
 // A number of 64 bits is two words, the low one first.
-pub fn long(t: Tape, n: usize) -> Tape
-    ensures { λ r. ⌜ shown r ≡ added t (n % 4294967296 ∷ n / 4294967296 ∷ []) ⌝ }
+pub fn long(tape: &mut [u32], at: usize, n: usize) -> usize
+    ensures { λ r. ⌜ Adds at (now (tape .entry)) (n % 4294967296 ∷ n / 4294967296 ∷ []) r (now (tape .exit)) ⌝ }
 {
     let low = (n % 4294967296) as u32;
     let high = (n / 4294967296) as u32;
-    word(word(t, low), high)
+    let at = word(tape, at, low);
+    word(tape, at, high)
 }
 
 pub fn wide(h: u16) -> u32

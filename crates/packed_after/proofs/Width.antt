@@ -1,10 +1,3 @@
-pub mod Words
-pub mod Answers
-pub mod Activity
 pub mod Phy
 pub mod Operations
-pub mod Kr
-pub mod X552
-pub mod X553
-pub mod Bringup
 pub mod Watch

@@ -1,10 +1,3 @@
-pub mod Activity
-pub mod Answers
-pub mod Bringup
-pub mod Kr
 pub mod Operations
 pub mod Phy
 pub mod Watch
-pub mod Words
-pub mod X552
-pub mod X553

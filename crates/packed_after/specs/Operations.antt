@@ -11,21 +11,21 @@ use Rattle.operations.specs.declared.kr_registers.Kr.the-variants as krv
 use Rattle.operations.specs.declared.kr_registers.Kr.{Kr}
 use Rattle.operations.specs.declared.registers.Mdio.the-variants as mdiov
 use Rattle.operations.specs.declared.registers.Mdio.{Mdio}
-use Rattle.packed_after.specs.Activity.{wordsActivity, getActivity}
-use Rattle.packed_after.specs.Answers.{wordsInternal, getInternal}
-use Rattle.packed_after.specs.Answers.{wordsMaybeStatus, getMaybeStatus}
-use Rattle.packed_after.specs.Answers.{wordsMaybeWord, getMaybeWord}
-use Rattle.packed_after.specs.Bringup.{wordsBringup, getBringup}
-use Rattle.packed_after.specs.Kr.{wordsKrModify, getKrModify}
-use Rattle.packed_after.specs.Kr.{wordsKrPlace, getKrPlace}
-use Rattle.packed_after.specs.Phy.{wordsAdvertisePlace, getAdvertisePlace}
-use Rattle.packed_after.specs.Phy.{wordsAnLink, getAnLink}
-use Rattle.packed_after.specs.Phy.{wordsClock, getClock}
 use Rattle.packed_after.specs.Phy.{wordsMaybeFlag, getMaybeFlag}
-use Rattle.packed_after.specs.Phy.{wordsModify, getModify}
-use Rattle.packed_after.specs.Phy.{wordsProbe, getProbe}
-use Rattle.packed_after.specs.Phy.{wordsReset, getReset}
 use Rattle.packed_after.specs.Watch.{wordsPoll, getPoll}
+use Rattle.packed_answers.specs.Answers.{wordsInternal, getInternal}
+use Rattle.packed_answers.specs.Answers.{wordsMaybeStatus, getMaybeStatus}
+use Rattle.packed_answers.specs.Answers.{wordsMaybeWord, getMaybeWord}
+use Rattle.packed_bringup.specs.Activity.{wordsActivity, getActivity}
+use Rattle.packed_bringup.specs.Bringup.{wordsBringup, getBringup}
+use Rattle.packed_bringup.specs.Kr.{wordsKrModify, getKrModify}
+use Rattle.packed_bringup.specs.Kr.{wordsKrPlace, getKrPlace}
+use Rattle.packed_bringup.specs.Phy.{wordsAdvertisePlace, getAdvertisePlace}
+use Rattle.packed_bringup.specs.Phy.{wordsAnLink, getAnLink}
+use Rattle.packed_bringup.specs.Phy.{wordsClock, getClock}
+use Rattle.packed_bringup.specs.Phy.{wordsModify, getModify}
+use Rattle.packed_bringup.specs.Phy.{wordsProbe, getProbe}
+use Rattle.packed_bringup.specs.Phy.{wordsReset, getReset}
 
 -- 11 words
 unfoldable pub wordsMdio : Mdio → List ℕ

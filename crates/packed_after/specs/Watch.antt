@@ -5,10 +5,10 @@ use lib.Dec.{eqb}
 use lib.ListN.{drop, replicate}
 use Rattle.hardware.specs.Talk.{pick}
 use Rattle.packed_access.specs.Tape.{wordAt, is, flagOf, joined}
-use Rattle.packed_after.specs.Answers.{wordsMaybeWord, getMaybeWord}
-use Rattle.packed_after.specs.Kr.{wordsKrModify, getKrModify}
-use Rattle.packed_after.specs.Kr.{wordsKrPlace, getKrPlace}
-use Rattle.packed_after.specs.Phy.{wordsAnLink, getAnLink}
+use Rattle.packed_answers.specs.Answers.{wordsMaybeWord, getMaybeWord}
+use Rattle.packed_bringup.specs.Kr.{wordsKrModify, getKrModify}
+use Rattle.packed_bringup.specs.Kr.{wordsKrPlace, getKrPlace}
+use Rattle.packed_bringup.specs.Phy.{wordsAnLink, getAnLink}
 use Rattle.watch.specs.declared.poll.Poll.the-variants as pollv
 use Rattle.watch.specs.declared.poll.Poll.{Poll}
 

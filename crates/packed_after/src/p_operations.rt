@@ -1,32 +1,6 @@
 // The states of operations as words, and back.
-use crate::p_activity::get_activity;
-use crate::p_activity::put_activity;
-use crate::p_answers::get_internal;
-use crate::p_answers::get_maybe_status;
-use crate::p_answers::get_maybe_word;
-use crate::p_answers::put_internal;
-use crate::p_answers::put_maybe_status;
-use crate::p_answers::put_maybe_word;
-use crate::p_bringup::get_bringup;
-use crate::p_bringup::put_bringup;
-use crate::p_kr::get_kr_modify;
-use crate::p_kr::get_kr_place;
-use crate::p_kr::put_kr_modify;
-use crate::p_kr::put_kr_place;
-use crate::p_phy::get_advertise_place;
-use crate::p_phy::get_an_link;
-use crate::p_phy::get_clock;
 use crate::p_phy::get_maybe_flag;
-use crate::p_phy::get_modify;
-use crate::p_phy::get_probe;
-use crate::p_phy::get_reset;
-use crate::p_phy::put_advertise_place;
-use crate::p_phy::put_an_link;
-use crate::p_phy::put_clock;
 use crate::p_phy::put_maybe_flag;
-use crate::p_phy::put_modify;
-use crate::p_phy::put_probe;
-use crate::p_phy::put_reset;
 use crate::p_watch::get_poll;
 use crate::p_watch::put_poll;
 use activity::Asked;
@@ -42,12 +16,37 @@ use packed_access::read::byte;
 use packed_access::read::half;
 use packed_access::read::is;
 use packed_access::read::word_at;
-use packed_access::tape::Tape;
 use packed_access::tape::flag;
 use packed_access::tape::wide;
 use packed_access::tape::wide_byte;
 use packed_access::tape::word;
 use packed_access::tape::zeros;
+use packed_answers::p_answers::get_internal;
+use packed_answers::p_answers::get_maybe_status;
+use packed_answers::p_answers::get_maybe_word;
+use packed_answers::p_answers::put_internal;
+use packed_answers::p_answers::put_maybe_status;
+use packed_answers::p_answers::put_maybe_word;
+use packed_bringup::p_activity::get_activity;
+use packed_bringup::p_activity::put_activity;
+use packed_bringup::p_bringup::get_bringup;
+use packed_bringup::p_bringup::put_bringup;
+use packed_bringup::p_kr::get_kr_modify;
+use packed_bringup::p_kr::get_kr_place;
+use packed_bringup::p_kr::put_kr_modify;
+use packed_bringup::p_kr::put_kr_place;
+use packed_bringup::p_phy::get_advertise_place;
+use packed_bringup::p_phy::get_an_link;
+use packed_bringup::p_phy::get_clock;
+use packed_bringup::p_phy::get_modify;
+use packed_bringup::p_phy::get_probe;
+use packed_bringup::p_phy::get_reset;
+use packed_bringup::p_phy::put_advertise_place;
+use packed_bringup::p_phy::put_an_link;
+use packed_bringup::p_phy::put_clock;
+use packed_bringup::p_phy::put_modify;
+use packed_bringup::p_phy::put_probe;
+use packed_bringup::p_phy::put_reset;
 use phy::advertise::Advertise;
 use phy::advertise::Advertised;
 use phy::modify::Register;
@@ -57,69 +56,69 @@ ghost use mathlib.Core.Path.{_≡_};
 ghost use Prim.Native.Nat.{ℕ};
 ghost use mathlib.Core.List.{List, _++_};
 ghost use lib.ListN.{drop};
-ghost use Rattle.packed_access.specs.Tape.{shown, added};
+ghost use Rattle.packed_access.specs.Tape.{Adds};
 ghost use Rattle.packed_after.specs.Operations.{getAfter, getKr, getMdio, wordsAfter, wordsKr, wordsMdio};
 
-pub fn put_mdio(t: Tape, s: Mdio) -> Tape
-    ensures { λ r. ⌜ (shown r ≡ added t (wordsMdio s)) × ((rest : List ℕ) → getMdio (wordsMdio s ++ rest) ≡ s) ⌝ }
+pub fn put_mdio(tape: &mut [u32; 65], at: usize, s: Mdio) -> usize
+    ensures { λ r. ⌜ Adds at (now (tape .entry)) (wordsMdio s) r (now (tape .exit)) × ((rest : List ℕ) → getMdio (wordsMdio s ++ rest) ≡ s) ⌝ }
 {
     match s {
         Mdio::Modify(register, modify) => {
-            let t = word(t, 1);
-            let t = word(t, register.phy);
-            let t = word(t, register.device);
-            let t = word(t, wide(register.register));
-            let t = word(t, wide(register.keep));
-            let t = word(t, wide(register.set));
-            let t = put_modify(t, modify);
-            zeros(t, 3)
+            let at = word(tape, at, 1);
+            let at = word(tape, at, register.phy);
+            let at = word(tape, at, register.device);
+            let at = word(tape, at, wide(register.register));
+            let at = word(tape, at, wide(register.keep));
+            let at = word(tape, at, wide(register.set));
+            let at = put_modify(tape, at, modify);
+            zeros(tape, at, 3)
         },
         Mdio::Probe(x, probe) => {
-            let t = word(t, 2);
-            let t = word(t, x);
-            let t = put_probe(t, probe);
-            zeros(t, 7)
+            let at = word(tape, at, 2);
+            let at = word(tape, at, x);
+            let at = put_probe(tape, at, probe);
+            zeros(tape, at, 7)
         },
         Mdio::Scan(scan) => {
-            let t = word(t, 3);
-            let t = word(t, wide_byte(scan.phy));
+            let at = word(tape, at, 3);
+            let at = word(tape, at, wide_byte(scan.phy));
             let the_probe = scan.probe;
-            let t = put_probe(t, the_probe);
-            zeros(t, 7)
+            let at = put_probe(tape, at, the_probe);
+            zeros(tape, at, 7)
         },
         Mdio::Reset(x, y, reset) => {
-            let t = word(t, 4);
-            let t = word(t, x);
-            let t = flag(t, y);
-            let t = put_reset(t, reset);
-            zeros(t, 6)
+            let at = word(tape, at, 4);
+            let at = word(tape, at, x);
+            let at = flag(tape, at, y);
+            let at = put_reset(tape, at, reset);
+            zeros(tape, at, 6)
         },
         Mdio::AnLink(x, an_link) => {
-            let t = word(t, 5);
-            let t = word(t, x);
-            let t = put_an_link(t, an_link);
-            zeros(t, 8)
+            let at = word(tape, at, 5);
+            let at = word(tape, at, x);
+            let at = put_an_link(tape, at, an_link);
+            zeros(tape, at, 8)
         },
         Mdio::Advertise(advertised, advertise) => {
             let speeds = advertised.speeds;
-            let t = word(t, 6);
-            let t = word(t, advertised.phy);
-            let t = flag(t, speeds.g10);
-            let t = flag(t, speeds.g1);
-            let t = flag(t, speeds.m100);
-            let t = flag(t, advertised.veto);
+            let at = word(tape, at, 6);
+            let at = word(tape, at, advertised.phy);
+            let at = flag(tape, at, speeds.g10);
+            let at = flag(tape, at, speeds.g1);
+            let at = flag(tape, at, speeds.m100);
+            let at = flag(tape, at, advertised.veto);
             let the_nbase = advertised.nbase;
-            let t = put_maybe_flag(t, the_nbase);
+            let at = put_maybe_flag(tape, at, the_nbase);
             let the_place = advertise.place;
-            let t = put_advertise_place(t, the_place);
+            let at = put_advertise_place(tape, at, the_place);
             let the_modify = advertise.modify;
-            put_modify(t, the_modify)
+            put_modify(tape, at, the_modify)
         },
         Mdio::Clock(x, clock) => {
-            let t = word(t, 7);
-            let t = flag(t, x);
-            let t = put_clock(t, clock);
-            zeros(t, 8)
+            let at = word(tape, at, 7);
+            let at = flag(tape, at, x);
+            let at = put_clock(tape, at, clock);
+            zeros(tape, at, 8)
         },
     }
 }
@@ -182,26 +181,26 @@ pub fn get_mdio(words: &[u32], at: usize) -> Mdio
     }
 }
 
-pub fn put_kr(t: Tape, s: Kr) -> Tape
-    ensures { λ r. ⌜ (shown r ≡ added t (wordsKr s)) × ((rest : List ℕ) → getKr (wordsKr s ++ rest) ≡ s) ⌝ }
+pub fn put_kr(tape: &mut [u32; 65], at: usize, s: Kr) -> usize
+    ensures { λ r. ⌜ Adds at (now (tape .entry)) (wordsKr s) r (now (tape .exit)) × ((rest : List ℕ) → getKr (wordsKr s ++ rest) ≡ s) ⌝ }
 {
     match s {
         Kr::Modify(change, kr_modify) => {
-            let t = word(t, 1);
-            let t = word(t, change.port0);
-            let t = word(t, change.keep);
-            let t = word(t, change.set);
-            let t = put_kr_modify(t, kr_modify);
-            zeros(t, 2)
+            let at = word(tape, at, 1);
+            let at = word(tape, at, change.port0);
+            let at = word(tape, at, change.keep);
+            let at = word(tape, at, change.set);
+            let at = put_kr_modify(tape, at, kr_modify);
+            zeros(tape, at, 2)
         },
         Kr::Sequence(sequence) => {
-            let t = word(t, 2);
+            let at = word(tape, at, 2);
             let the_place = sequence.place;
-            let t = put_kr_place(t, the_place);
+            let at = put_kr_place(tape, at, the_place);
             let the_first = sequence.first;
-            let t = put_maybe_word(t, the_first);
+            let at = put_maybe_word(tape, at, the_first);
             let the_modify = sequence.modify;
-            put_kr_modify(t, the_modify)
+            put_kr_modify(tape, at, the_modify)
         },
     }
 }
@@ -228,76 +227,76 @@ pub fn get_kr(words: &[u32], at: usize) -> Kr
     }
 }
 
-pub fn put_after(t: Tape, s: After) -> Tape
-    ensures { λ r. ⌜ (shown r ≡ added t (wordsAfter s)) × ((rest : List ℕ) → getAfter (wordsAfter s ++ rest) ≡ s) ⌝ }
+pub fn put_after(tape: &mut [u32; 65], at: usize, s: After) -> usize
+    ensures { λ r. ⌜ Adds at (now (tape .entry)) (wordsAfter s) r (now (tape .exit)) × ((rest : List ℕ) → getAfter (wordsAfter s ++ rest) ≡ s) ⌝ }
 {
     match s {
         After::Nothing => {
-            let t = word(t, 1);
-            zeros(t, 19)
+            let at = word(tape, at, 1);
+            zeros(tape, at, 19)
         },
         After::Word => {
-            let t = word(t, 2);
-            zeros(t, 19)
+            let at = word(tape, at, 2);
+            zeros(tape, at, 19)
         },
         After::Veto => {
-            let t = word(t, 3);
-            zeros(t, 19)
+            let at = word(tape, at, 3);
+            zeros(tape, at, 19)
         },
         After::Link => {
-            let t = word(t, 4);
-            zeros(t, 19)
+            let at = word(tape, at, 4);
+            zeros(tape, at, 19)
         },
         After::Abilities => {
-            let t = word(t, 5);
-            zeros(t, 19)
+            let at = word(tape, at, 5);
+            zeros(tape, at, 19)
         },
         After::Command(x) => {
-            let t = word(t, 6);
-            let t = word(t, x);
-            zeros(t, 18)
+            let at = word(tape, at, 6);
+            let at = word(tape, at, x);
+            zeros(tape, at, 18)
         },
         After::Token(x) => {
-            let t = word(t, 7);
-            let t = flag(t, x);
-            zeros(t, 18)
+            let at = word(tape, at, 7);
+            let at = flag(tape, at, x);
+            zeros(tape, at, 18)
         },
         After::Activity(asked, activity) => {
             let data = asked.data;
-            let t = word(t, 8);
-            let t = word(t, wide(asked.activity));
-            let t = word(t, data.w0);
-            let t = word(t, data.w1);
-            let t = word(t, data.w2);
-            let t = word(t, data.w3);
-            let t = put_activity(t, activity);
-            zeros(t, 11)
+            let at = word(tape, at, 8);
+            let at = word(tape, at, wide(asked.activity));
+            let at = word(tape, at, data.w0);
+            let at = word(tape, at, data.w1);
+            let at = word(tape, at, data.w2);
+            let at = word(tape, at, data.w3);
+            let at = put_activity(tape, at, activity);
+            zeros(tape, at, 11)
         },
         After::Mdio(mdio) => {
-            let t = word(t, 9);
-            let t = put_mdio(t, mdio);
-            zeros(t, 8)
+            let at = word(tape, at, 9);
+            let at = put_mdio(tape, at, mdio);
+            zeros(tape, at, 8)
         },
         After::Kr(kr) => {
-            let t = word(t, 10);
-            let t = put_kr(t, kr);
-            zeros(t, 11)
+            let at = word(tape, at, 10);
+            let at = put_kr(tape, at, kr);
+            zeros(tape, at, 11)
         },
         After::Bringup(x, bringup) => {
-            let t = word(t, 11);
-            let t = flag(t, x);
-            put_bringup(t, bringup)
+            let at = word(tape, at, 11);
+            let at = flag(tape, at, x);
+            put_bringup(tape, at, bringup)
         },
         After::Poll(watch, poll) => {
-            let t = word(t, 12);
-            let t = word(t, watch.phy);
-            let t = word(t, watch.reforced);
+            let at = word(tape, at, 12);
+            let at = word(tape, at, watch.phy);
+            let at = word(tape, at, watch.reforced);
             let the_internal = watch.internal;
-            let t = put_internal(t, the_internal);
+            let at = put_internal(tape, at, the_internal);
             let the_forced = watch.forced;
-            let t = put_maybe_status(t, the_forced);
-            let t = put_poll(t, poll);
-            zeros(t, 4)
+            let at = put_maybe_status(tape, at, the_forced);
+            let at = put_poll(tape, at, poll);
+            zeros(tape, at, 4)
         },
     }
 }

@@ -1,57 +1,56 @@
 // The states of watch as words, and back.
-use crate::p_answers::get_maybe_word;
-use crate::p_answers::put_maybe_word;
-use crate::p_kr::get_kr_modify;
-use crate::p_kr::get_kr_place;
-use crate::p_kr::put_kr_modify;
-use crate::p_kr::put_kr_place;
-use crate::p_phy::get_an_link;
-use crate::p_phy::put_an_link;
 use kr::sequence::Sequence;
 use packed_access::read::after;
 use packed_access::read::half;
 use packed_access::read::word_at;
-use packed_access::tape::Tape;
 use packed_access::tape::wide;
 use packed_access::tape::word;
 use packed_access::tape::zeros;
+use packed_answers::p_answers::get_maybe_word;
+use packed_answers::p_answers::put_maybe_word;
+use packed_bringup::p_kr::get_kr_modify;
+use packed_bringup::p_kr::get_kr_place;
+use packed_bringup::p_kr::put_kr_modify;
+use packed_bringup::p_kr::put_kr_place;
+use packed_bringup::p_phy::get_an_link;
+use packed_bringup::p_phy::put_an_link;
 use watch::poll::Poll;
 ghost use mathlib.Core.Path.{_≡_};
 ghost use Prim.Native.Nat.{ℕ};
 ghost use mathlib.Core.List.{List, _++_};
 ghost use lib.ListN.{drop};
-ghost use Rattle.packed_access.specs.Tape.{shown, added};
+ghost use Rattle.packed_access.specs.Tape.{Adds};
 ghost use Rattle.packed_after.specs.Watch.{getPoll, wordsPoll};
 
-pub fn put_poll(t: Tape, s: Poll) -> Tape
-    ensures { λ r. ⌜ (shown r ≡ added t (wordsPoll s)) × ((rest : List ℕ) → getPoll (wordsPoll s ++ rest) ≡ s) ⌝ }
+pub fn put_poll(tape: &mut [u32; 65], at: usize, s: Poll) -> usize
+    ensures { λ r. ⌜ Adds at (now (tape .entry)) (wordsPoll s) r (now (tape .exit)) × ((rest : List ℕ) → getPoll (wordsPoll s ++ rest) ≡ s) ⌝ }
 {
     match s {
         Poll::First(an_link) => {
-            let t = word(t, 1);
-            let t = put_an_link(t, an_link);
-            zeros(t, 8)
+            let at = word(tape, at, 1);
+            let at = put_an_link(tape, at, an_link);
+            zeros(tape, at, 8)
         },
         Poll::Status => {
-            let t = word(t, 2);
-            zeros(t, 9)
+            let at = word(tape, at, 2);
+            zeros(tape, at, 9)
         },
         Poll::Second(x, an_link) => {
-            let t = word(t, 3);
-            let t = word(t, wide(x));
-            let t = put_an_link(t, an_link);
-            zeros(t, 7)
+            let at = word(tape, at, 3);
+            let at = word(tape, at, wide(x));
+            let at = put_an_link(tape, at, an_link);
+            zeros(tape, at, 7)
         },
         Poll::Force(x, y, sequence) => {
-            let t = word(t, 4);
-            let t = word(t, wide(x));
-            let t = word(t, y);
+            let at = word(tape, at, 4);
+            let at = word(tape, at, wide(x));
+            let at = word(tape, at, y);
             let the_place = sequence.place;
-            let t = put_kr_place(t, the_place);
+            let at = put_kr_place(tape, at, the_place);
             let the_first = sequence.first;
-            let t = put_maybe_word(t, the_first);
+            let at = put_maybe_word(tape, at, the_first);
             let the_modify = sequence.modify;
-            put_kr_modify(t, the_modify)
+            put_kr_modify(tape, at, the_modify)
         },
     }
 }

@@ -1,4 +1,5 @@
 // `acquire` and `release` over a script.
+use crate::command;
 use access::hold::Hold;
 use access::hold::HoldStep;
 use drive::Acted;
@@ -38,8 +39,7 @@ fn single(
     }
 }
 
-// acquire_bits and release_bits as far as they go; of the token's command, and of the wait before it is asked for again, one
-// action.
+// acquire_bits and release_bits as far as they go, those of the token's command too; of anything else, one action.
 pub fn run(
     s: Hold,
     a: Action,
@@ -58,6 +58,15 @@ pub fn run(
         let got = r.step;
         let step = Hold::bits(port, hw, block, place, got);
         return HoldRan { host, step };
+    }
+    if let Hold::Token(place, m) = s {
+        let r = command::run_of(m, 2, a, port, block, h, replies, t);
+        let host = r.host;
+        let got = r.step;
+        return HoldRan {
+            host,
+            step: Hold::commanded(port, hw, place, got),
+        };
     }
     single(s, a, port, hw, block, h, replies, t)
 }

@@ -2,7 +2,9 @@
 use crate::locked;
 use access::access::Access;
 use access::access::AccessStep;
+use drive::Acted;
 use drive::Host;
+use drive::act;
 use hardware::Action;
 use hardware::Port;
 ghost use Rattle.access.specs.Access.{toldAccess};
@@ -13,7 +15,30 @@ pub struct AccessRan {
     pub step: AccessStep,
 }
 
-// What is done under a lock as far as it goes; anything else stays where it is.
+fn single(
+    s: Access,
+    a: Action,
+    port: Port,
+    block: &mut [u32; 16],
+    h: Host,
+    replies: &[u32],
+    t: &mut [u32],
+) -> AccessRan
+    ensures { λ r. ⌜ Moves (now (replies .entry)) (toldAccess port (now (block .entry)) (AccessStep.Ask a s)) (tape h (now (t .entry))) (toldAccess port (now (block .exit)) (r .step)) (tape (r .host) (now (t .exit))) ⌝ }
+{
+    match act(h, a, replies, t) {
+        Acted::Short => AccessRan {
+            host: h,
+            step: AccessStep::Ask(a, s),
+        },
+        Acted::Is(host, reply) => {
+            let step = s.next(port, block, reply);
+            AccessRan { host, step }
+        }
+    }
+}
+
+// What is done under a lock as far as it goes; of anything else, one action.
 pub fn run(
     s: Access,
     a: Action,
@@ -34,8 +59,5 @@ pub fn run(
             step: Access::under(port, mask, got),
         };
     }
-    AccessRan {
-        host: h,
-        step: AccessStep::Ask(a, s),
-    }
+    single(s, a, port, block, h, replies, t)
 }

@@ -218,15 +218,26 @@ impl Op {
 }
 
 impl OpRan {
-    // As far as the access that stands there goes by itself.
+    // As far as accesses go by themselves, one after the other.
     pub fn ahead(self, port: Port, block: &mut [u32; 16], replies: &[u32], t: &mut [u32]) -> OpRan
         ensures { λ r. ⌜ Moves (now (replies .entry)) (told port (self .place) (now (block .entry))) (tape (self .host) (now (t .entry))) (told port (r .place) (now (block .exit))) (tape (r .host) (now (t .exit))) ⌝ }
     {
-        let host = self.host;
-        let place = self.place;
-        match place {
-            Place::Ended(_, _) => self,
-            Place::Asks(a, op) => op.run(a, port, block, host, replies, t),
+        let mut ran = self;
+        loop {
+            let host = ran.host;
+            let place = ran.place;
+            match place {
+                Place::Ended(_, _) => {
+                    return ran;
+                }
+                Place::Asks(a, op) => {
+                    ran = op.run(a, port, block, host, replies, t);
+                    let next = ran.host;
+                    if next.at == host.at {
+                        return ran;
+                    }
+                }
+            }
         }
     }
 }

@@ -4,4 +4,3 @@ pub mod KindLaws
 pub mod OperationLaws
 pub mod LineLaws
 pub mod ListingLaws
-pub mod TurnLaws

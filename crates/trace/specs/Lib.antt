@@ -5,7 +5,6 @@ pub mod Operation
 pub mod Reply
 pub mod Setups
 pub mod Listing
-pub mod Turn
 pub mod Kr
 pub mod Lines
 pub mod Arguments

@@ -9,4 +9,3 @@ pub mod port;
 pub mod registers;
 pub mod reply;
 pub mod setups;
-pub mod turn;

@@ -9,8 +9,8 @@ use Rattle.started.specs.declared.operation.Place.the-variants as placev
 use Rattle.border.specs.Started.{wordsPlace}
 use Rattle.packed_access.proofs.Width.Access.{access-length}
 use Rattle.packed_access.proofs.Width.Hardware.{action-length}
-use Rattle.packed_after.proofs.Width.Answers.{answer-length}
 use Rattle.packed_after.proofs.Width.Operations.{after-length}
+use Rattle.packed_answers.proofs.Width.Answers.{answer-length}
 
 pub place-length : (s : Place) → length (wordsPlace s) ≡ 58
 unfolding wordsPlace

@@ -1,7 +1,7 @@
 use borrow.Author.Needs.{needs}
+use mathlib.Core.Path.{refl}
 use Rattle.text.proofs.SameLaws.{same-self}
 use Rattle.border.specs.Held.{heldBy, isHeld}
-use Rattle.border.proofs.Laws.{wordsOf-length}
 use Rattle.border.proofs.held.hold.Statement.{statement}
 use Rattle.border.proofs.held.hold.Tie as tie
 
@@ -11,7 +11,6 @@ hold-spec =
     tie.close
     (tie.spec
     (λ c κs. search needs)
-    (λ c κs. search needs)
-    (λ c. let e = c .before .all-of .ensures _ (wordsOf-length _) (c .before .before .put-conversation .ensures .0) in
-    let b = c .before .before .put-conversation .ensures .1 in
+    (λ c. let e = c .before .put-conversation .ensures .0 refl in
+    let b = c .before .put-conversation .ensures .1 in
     (simp (e, b), simp (e, b, same-self))))

@@ -1,5 +1,6 @@
 use borrow.Author.Needs.{needs}
-use mathlib.Core.Path.{ap, sym, _∙_}
+use mathlib.Core.Path.{refl, ap, sym, _∙_}
+use lib.ListN.{length}
 use Rattle.text.specs.Same.{same}
 use Rattle.border.specs.Held.{isHeld, wordsOf}
 use Rattle.border.proofs.Laws.{wordsOf-length}
@@ -13,10 +14,9 @@ is-held-spec =
     (tie.spec
     (λ c κs. search needs)
     (λ c κs. search needs)
-    (λ c κs. search needs)
-    (λ c. search needs)
+    (λ c. sym (ap length (c .before .before .put-conversation .ensures .0 refl) ∙ wordsOf-length (c .before .before .before .read-held .result)))
     (λ c. search needs)
     (λ c κs. search needs)
     (λ c. let p = c .before .before .before .before in
-    let e = p .all-of .ensures _ (wordsOf-length _) (p .before .put-conversation .ensures .0) ∙ ap wordsOf (p .before .before .read-held .ensures) in
+    let e = p .put-conversation .ensures .0 refl ∙ ap wordsOf (p .before .read-held .ensures) in
     ap (λ ws. same ws (p .before .before .before .args .h .words)) (sym e) ∙ c .same-words .ensures))

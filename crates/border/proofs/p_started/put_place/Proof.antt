@@ -1,6 +1,6 @@
 use borrow.Author.Needs.{needs}
 use mathlib.Core.List.{append-assoc}
-use Rattle.packed_access.proofs.Laws.{added-more, joined-back}
+use Rattle.packed_access.proofs.Laws.{then, joined-back}
 use Rattle.packed_access.proofs.Width.Access.{drop-access}
 use Rattle.packed_access.proofs.Width.Hardware.{drop-action}
 use Rattle.border.specs.Started.{wordsPlace, getPlace}
@@ -23,5 +23,5 @@ put-place-spec =
     (λ c κs. search needs)
     (λ c κs. search needs)
     (λ c κs. search needs)
-    (λ c. (simp (c .before .before .before .before .before .s .given .1, c .before .before .before .word .ensures, c .before .before .long .ensures, c .before .put-answer .ensures .0, c .zeros .ensures, added-more), λ rest. simp (c .before .before .before .before .before .s .given .1, joined-back, c .before .put-answer .ensures .1, append-assoc)))
-    (λ c. (simp (c .before .before .before .before .before .s2 .given .1, c .before .before .before .word2 .ensures, c .before .before .put-action .ensures .0, c .before .put-access .ensures .0, c .put-after .ensures .0, added-more) (simp append-assoc), λ rest. simp (c .before .before .before .before .before .s2 .given .1, c .before .before .put-action .ensures .1, c .before .put-access .ensures .1, c .put-after .ensures .1, append-assoc, drop-action, drop-access))))
+    (λ c. (rw (c .before .before .before .before .before .before .before .before .before .s .given .1) (then (c .before .before .before .before .before .before .word .ensures) (then (c .before .before .before .before .long .ensures) (then (c .before .before .put-answer .ensures .0) (c .zeros .ensures)))), λ rest. simp (c .before .before .before .before .before .before .before .before .before .s .given .1, joined-back, c .before .before .put-answer .ensures .1, append-assoc)))
+    (λ c. (rw (c .before .before .before .before .before .before .before .before .before .s2 .given .1) (then (c .before .before .before .before .before .before .word2 .ensures) (then (c .before .before .before .before .put-action .ensures .0) (then (c .before .before .put-access .ensures .0) (c .put-after .ensures .0)))), λ rest. simp (c .before .before .before .before .before .before .before .before .before .s2 .given .1, c .before .before .before .before .put-action .ensures .1, c .before .before .put-access .ensures .1, c .put-after .ensures .1, append-assoc, drop-action, drop-access))))

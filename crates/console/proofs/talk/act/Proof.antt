@@ -10,6 +10,7 @@ pub act-spec : {M : Type 1} → statement M
 act-spec =
     tie.close
     (tie.spec
+    (λ c. search needs)
     (λ c κs. search needs)
     (λ c. sym (added-length (c .before .before .before .turn .ensures .text) ∙ length-replicate {A = ℕ} 512 0))
     (λ c κs. search needs)

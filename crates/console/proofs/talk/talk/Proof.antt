@@ -1,4 +1,3 @@
-use Prim.Native.Nat.{_-_, _≤_}
 use mathlib.Core.Path.{_≡_}
 use borrow.Author.Needs.{needs}
 use lib.ListN.{length}
@@ -9,16 +8,10 @@ pub talk-spec : {M : Type 1} → statement M
 talk-spec =
     tie.close
     (tie.spec
-    (λ buf₀ out₀ n asked m₀ turns₀ buf out m turns. (length buf ≡ length buf₀) × (length out ≡ length out₀))
-    (λ buf₀ out₀ n asked m₀ turns₀ buf out m turns. turns)
-    (λ c. search needs)
-    (λ c. search needs)
+    (λ buf₀ out₀ asked at₀ turns₀ buf out at turns. (length buf ≡ length buf₀) × (length out ≡ length out₀))
+    (λ buf₀ out₀ asked at₀ turns₀ buf out at turns. turns)
     (λ c. search needs)
     (λ c κs. search needs)
-    (λ c κs. search needs)
-    (λ c. search needs)
-    (λ c. search needs)
-    (λ c. search needs)
     (λ c. search needs)
     (λ c. search needs)
     (λ c. search needs)

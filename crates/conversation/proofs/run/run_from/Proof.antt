@@ -7,7 +7,8 @@ use lib.ListN.{length}
 use Rattle.drive.specs.Moves.{tape, Moves, stays}
 use Rattle.drive.proofs.Laws.{then, from-as, moves-within}
 use Rattle.started.specs.Operation.{told}
-use Rattle.conversation.proofs.Laws.{told-at, run-ended, run-full, run-dry}
+use Rattle.started.proofs.Laws.{told-at}
+use Rattle.conversation.proofs.Laws.{run-ended, run-full, run-dry}
 use Rattle.conversation.proofs.run.run_from.Statement.{statement}
 use Rattle.conversation.proofs.run.run_from.Tie as tie
 

@@ -1,6 +1,6 @@
 use borrow.Author.Needs.{needs}
 use mathlib.Core.List.{append-assoc}
-use Rattle.packed_access.proofs.Laws.{added-more}
+use Rattle.packed_access.proofs.Laws.{then}
 use Rattle.packed_access.proofs.Width.Access.{drop-bits-place}
 use Rattle.packed_access.proofs.Width.Access.{drop-token-place}
 use Rattle.packed_access.specs.Access.{wordsHold, getHold}
@@ -26,6 +26,6 @@ put-hold-spec =
     (λ c κs. search needs)
     (λ c κs. search needs)
     (λ c κs. search needs)
-    (λ c. (simp (c .before .before .before .before .before .s .given .1, c .before .before .before .word .ensures, c .before .before .put-bits-place .ensures .0, c .before .put-sync .ensures .0, c .zeros .ensures, added-more) (simp append-assoc), λ rest. simp (c .before .before .before .before .before .s .given .1, c .before .before .put-bits-place .ensures .1, c .before .put-sync .ensures .1, append-assoc, drop-bits-place)))
-    (λ c. (simp (c .before .before .before .before .s2 .given .1, c .before .before .word2 .ensures, c .before .put-token-place .ensures .0, c .put-command .ensures .0, added-more), λ rest. simp (c .before .before .before .before .s2 .given .1, c .before .put-token-place .ensures .1, c .put-command .ensures .1, append-assoc, drop-token-place)))
-    (λ c. (simp (c .before .before .before .before .s3 .given .1, c .before .before .word3 .ensures, c .before .word4 .ensures, c .zeros2 .ensures, added-more), λ rest. simp (c .before .before .before .before .s3 .given .1))))
+    (λ c. (rw (c .before .before .before .before .before .before .before .before .before .s .given .1) (then (c .before .before .before .before .before .before .word .ensures) (then (c .before .before .before .before .put-bits-place .ensures .0) (then (c .before .before .put-sync .ensures .0) (c .zeros .ensures)))), λ rest. simp (c .before .before .before .before .before .before .before .before .before .s .given .1, c .before .before .before .before .put-bits-place .ensures .1, c .before .before .put-sync .ensures .1, append-assoc, drop-bits-place)))
+    (λ c. (rw (c .before .before .before .before .before .before .before .s2 .given .1) (then (c .before .before .before .before .word2 .ensures) (then (c .before .before .put-token-place .ensures .0) (c .put-command .ensures .0))), λ rest. simp (c .before .before .before .before .before .before .before .s2 .given .1, c .before .before .put-token-place .ensures .1, c .put-command .ensures .1, append-assoc, drop-token-place)))
+    (λ c. (rw (c .before .before .before .before .before .before .before .s3 .given .1) (then (c .before .before .before .before .word3 .ensures) (then (c .before .before .word4 .ensures) (c .zeros2 .ensures))), λ rest. simp (c .before .before .before .before .before .before .before .s3 .given .1))))

@@ -1,5 +1,5 @@
 use borrow.Author.Needs.{needs}
-use Rattle.packed_access.proofs.Laws.{added-more}
+use Rattle.packed_access.proofs.Laws.{then}
 use Rattle.packed_access.specs.Hardware.{wordsError, getError}
 use Rattle.packed_access.specs.Tape.{wordAt}
 use Rattle.packed_access.proofs.p_hardware.put_error.Statement.{statement}
@@ -61,16 +61,16 @@ put-error-spec =
     (λ c. search needs)
     (λ c κs. search needs)
     (λ c κs. search needs)
-    (λ c. (simp (c .before .before .before .before .s .given .1, c .before .before .word .ensures, c .before .word2 .ensures, c .zeros .ensures, added-more), λ rest. simp (c .before .before .before .before .s .given .1)))
-    (λ c. (simp (c .before .before .enum-told .given .1, c .before .word3 .ensures, c .zeros2 .ensures, added-more), λ rest. simp (c .before .before .enum-told .given .1)))
-    (λ c. (simp (c .before .before .before .before .before .before .s2 .given .1, c .before .before .before .before .word4 .ensures, c .before .before .before .word5 .ensures, c .before .before .word6 .ensures, c .before .word7 .ensures, c .word8 .ensures, added-more), λ rest. simp (c .before .before .before .before .before .before .s2 .given .1)))
-    (λ c. (simp (c .before .before .before .before .before .s3 .given .1, c .before .before .before .word9 .ensures, c .before .before .word10 .ensures, c .before .word11 .ensures, c .zeros3 .ensures, added-more), λ rest. simp (c .before .before .before .before .before .s3 .given .1)))
-    (λ c. (simp (c .before .before .before .before .s4 .given .1, c .before .before .word12 .ensures, c .before .word13 .ensures, c .zeros4 .ensures, added-more), λ rest. simp (c .before .before .before .before .s4 .given .1)))
-    (λ c. (simp (c .before .before .before .before .s5 .given .1, c .before .before .word14 .ensures, c .before .word15 .ensures, c .zeros5 .ensures, added-more), λ rest. simp (c .before .before .before .before .s5 .given .1)))
-    (λ c. (simp (c .before .before .before .before .before .before .before .s6 .given .1, c .before .before .before .before .before .word16 .ensures, c .before .before .before .before .wide-byte .ensures .0, c .before .before .before .word17 .ensures, c .before .before .wide-byte2 .ensures .0, c .before .word18 .ensures, c .zeros6 .ensures, added-more), λ rest. simp (c .before .before .before .before .before .before .before .s6 .given .1, c .before .before .before .before .wide-byte .ensures .1, c .before .before .wide-byte2 .ensures .1)))
-    (λ c. (simp (c .before .before .enum-told2 .given .1, c .before .word19 .ensures, c .zeros7 .ensures, added-more), λ rest. simp (c .before .before .enum-told2 .given .1)))
-    (λ c. (simp (c .before .before .enum-told3 .given .1, c .before .word20 .ensures, c .zeros8 .ensures, added-more), λ rest. simp (c .before .before .enum-told3 .given .1)))
-    (λ c. (simp (c .before .before .enum-told4 .given .1, c .before .word21 .ensures, c .zeros9 .ensures, added-more), λ rest. simp (c .before .before .enum-told4 .given .1)))
-    (λ c. (simp (c .before .before .enum-told5 .given .1, c .before .word22 .ensures, c .zeros10 .ensures, added-more), λ rest. simp (c .before .before .enum-told5 .given .1)))
-    (λ c. (simp (c .before .before .enum-told6 .given .1, c .before .word23 .ensures, c .zeros11 .ensures, added-more), λ rest. simp (c .before .before .enum-told6 .given .1)))
-    (λ c. (simp (c .before .before .enum-told7 .given .1, c .before .word24 .ensures, c .zeros12 .ensures, added-more), λ rest. simp (c .before .before .enum-told7 .given .1))))
+    (λ c. (rw (c .before .before .before .before .before .before .before .s .given .1) (then (c .before .before .before .before .word .ensures) (then (c .before .before .word2 .ensures) (c .zeros .ensures))), λ rest. simp (c .before .before .before .before .before .before .before .s .given .1)))
+    (λ c. (rw (c .before .before .before .before .enum-told .given .1) (then (c .before .before .word3 .ensures) (c .zeros2 .ensures)), λ rest. simp (c .before .before .before .before .enum-told .given .1)))
+    (λ c. (rw (c .before .before .before .before .before .before .before .before .before .before .before .s2 .given .1) (then (c .before .before .before .before .before .before .before .before .word4 .ensures) (then (c .before .before .before .before .before .before .word5 .ensures) (then (c .before .before .before .before .word6 .ensures) (then (c .before .before .word7 .ensures) (c .word8 .ensures))))), λ rest. simp (c .before .before .before .before .before .before .before .before .before .before .before .s2 .given .1)))
+    (λ c. (rw (c .before .before .before .before .before .before .before .before .before .s3 .given .1) (then (c .before .before .before .before .before .before .word9 .ensures) (then (c .before .before .before .before .word10 .ensures) (then (c .before .before .word11 .ensures) (c .zeros3 .ensures)))), λ rest. simp (c .before .before .before .before .before .before .before .before .before .s3 .given .1)))
+    (λ c. (rw (c .before .before .before .before .before .before .before .s4 .given .1) (then (c .before .before .before .before .word12 .ensures) (then (c .before .before .word13 .ensures) (c .zeros4 .ensures))), λ rest. simp (c .before .before .before .before .before .before .before .s4 .given .1)))
+    (λ c. (rw (c .before .before .before .before .before .before .before .s5 .given .1) (then (c .before .before .before .before .word14 .ensures) (then (c .before .before .word15 .ensures) (c .zeros5 .ensures))), λ rest. simp (c .before .before .before .before .before .before .before .s5 .given .1)))
+    (λ c. (rw (c .before .before .before .before .before .before .before .before .before .before .before .s6 .given .1) (then (c .before .before .before .before .before .before .before .before .word16 .ensures) (then (rw (c .before .before .before .before .before .before .wide-byte .ensures .0) at (c .before .before .before .before .before .word17 .ensures)) (then (rw (c .before .before .before .wide-byte2 .ensures .0) at (c .before .before .word18 .ensures)) (c .zeros6 .ensures)))), λ rest. simp (c .before .before .before .before .before .before .before .before .before .before .before .s6 .given .1, c .before .before .before .before .before .before .wide-byte .ensures .1, c .before .before .before .wide-byte2 .ensures .1)))
+    (λ c. (rw (c .before .before .before .before .enum-told2 .given .1) (then (c .before .before .word19 .ensures) (c .zeros7 .ensures)), λ rest. simp (c .before .before .before .before .enum-told2 .given .1)))
+    (λ c. (rw (c .before .before .before .before .enum-told3 .given .1) (then (c .before .before .word20 .ensures) (c .zeros8 .ensures)), λ rest. simp (c .before .before .before .before .enum-told3 .given .1)))
+    (λ c. (rw (c .before .before .before .before .enum-told4 .given .1) (then (c .before .before .word21 .ensures) (c .zeros9 .ensures)), λ rest. simp (c .before .before .before .before .enum-told4 .given .1)))
+    (λ c. (rw (c .before .before .before .before .enum-told5 .given .1) (then (c .before .before .word22 .ensures) (c .zeros10 .ensures)), λ rest. simp (c .before .before .before .before .enum-told5 .given .1)))
+    (λ c. (rw (c .before .before .before .before .enum-told6 .given .1) (then (c .before .before .word23 .ensures) (c .zeros11 .ensures)), λ rest. simp (c .before .before .before .before .enum-told6 .given .1)))
+    (λ c. (rw (c .before .before .before .before .enum-told7 .given .1) (then (c .before .before .word24 .ensures) (c .zeros12 .ensures)), λ rest. simp (c .before .before .before .before .enum-told7 .given .1))))

@@ -13,5 +13,5 @@ put-family-spec =
     (λ c κs. search needs)
     (λ c. search needs)
     (λ c κs. search needs)
-    (λ c. (simp (c .before .enum-told .given .1, c .word .ensures), λ rest. simp (c .before .enum-told .given .1)))
-    (λ c. (simp (c .before .enum-told2 .given .1, c .word2 .ensures), λ rest. simp (c .before .enum-told2 .given .1))))
+    (λ c. (rw (c .before .before .enum-told .given .1) (c .word .ensures), λ rest. simp (c .before .before .enum-told .given .1)))
+    (λ c. (rw (c .before .before .enum-told2 .given .1) (c .word2 .ensures), λ rest. simp (c .before .before .enum-told2 .given .1))))

@@ -1,6 +1,6 @@
 use borrow.Author.Needs.{needs}
 use mathlib.Core.List.{append-assoc}
-use Rattle.packed_access.proofs.Laws.{added-more}
+use Rattle.packed_access.proofs.Laws.{then}
 use Rattle.packed_access.proofs.Width.Hostif.{drop-command-place}
 use Rattle.packed_access.specs.Hostif.{wordsCommand, getCommand}
 use Rattle.packed_access.specs.Tape.{wordAt}
@@ -20,5 +20,5 @@ put-command-spec =
     (λ c κs. search needs)
     (λ c κs. search needs)
     (λ c κs. search needs)
-    (λ c. (simp (c .before .before .before .before .s .given .1, c .before .before .word .ensures, c .before .put-command-place .ensures .0, c .put-sync .ensures .0, added-more), λ rest. simp (c .before .before .before .before .s .given .1, c .before .put-command-place .ensures .1, c .put-sync .ensures .1, append-assoc, drop-command-place)))
-    (λ c. (simp (c .before .before .before .before .s2 .given .1, c .before .before .word2 .ensures, c .before .put-exchange .ensures .0, c .zeros .ensures, added-more), λ rest. simp (c .before .before .before .before .s2 .given .1, c .before .put-exchange .ensures .1, append-assoc))))
+    (λ c. (rw (c .before .before .before .before .before .before .before .s .given .1) (then (c .before .before .before .before .word .ensures) (then (c .before .before .put-command-place .ensures .0) (c .put-sync .ensures .0))), λ rest. simp (c .before .before .before .before .before .before .before .s .given .1, c .before .before .put-command-place .ensures .1, c .put-sync .ensures .1, append-assoc, drop-command-place)))
+    (λ c. (rw (c .before .before .before .before .before .before .before .s2 .given .1) (then (c .before .before .before .before .word2 .ensures) (then (c .before .before .put-exchange .ensures .0) (c .zeros .ensures))), λ rest. simp (c .before .before .before .before .before .before .before .s2 .given .1, c .before .before .put-exchange .ensures .1, append-assoc))))

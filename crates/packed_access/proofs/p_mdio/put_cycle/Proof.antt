@@ -1,5 +1,5 @@
 use borrow.Author.Needs.{needs}
-use Rattle.packed_access.proofs.Laws.{added-more}
+use Rattle.packed_access.proofs.Laws.{then}
 use Rattle.packed_access.specs.Mdio.{wordsCycle, getCycle}
 use Rattle.packed_access.specs.Tape.{wordAt}
 use Rattle.packed_access.proofs.p_mdio.put_cycle.Statement.{statement}
@@ -19,6 +19,6 @@ put-cycle-spec =
     (λ c. search needs)
     (λ c κs. search needs)
     (λ c κs. search needs)
-    (λ c. (simp (c .before .before .enum-told .given .1, c .before .word .ensures, c .word2 .ensures, added-more), λ rest. simp (c .before .before .enum-told .given .1)))
-    (λ c. (simp (c .before .before .before .s .given .1, c .before .word3 .ensures, c .word4 .ensures, added-more), λ rest. simp (c .before .before .before .s .given .1)))
-    (λ c. (simp (c .before .before .before .s2 .given .1, c .before .word5 .ensures, c .word6 .ensures, added-more), λ rest. simp (c .before .before .before .s2 .given .1))))
+    (λ c. (rw (c .before .before .before .before .enum-told .given .1) (then (c .before .before .word .ensures) (c .word2 .ensures)), λ rest. simp (c .before .before .before .before .enum-told .given .1)))
+    (λ c. (rw (c .before .before .before .before .before .s .given .1) (then (c .before .before .word3 .ensures) (c .word4 .ensures)), λ rest. simp (c .before .before .before .before .before .s .given .1)))
+    (λ c. (rw (c .before .before .before .before .before .s2 .given .1) (then (c .before .before .word5 .ensures) (c .word6 .ensures)), λ rest. simp (c .before .before .before .before .before .s2 .given .1))))

@@ -1,6 +1,6 @@
 use borrow.Author.Needs.{needs}
 use mathlib.Core.List.{append-assoc}
-use Rattle.packed_access.proofs.Laws.{added-more}
+use Rattle.packed_access.proofs.Laws.{then}
 use Rattle.packed_access.proofs.Width.Mdio.{drop-mdio-place}
 use Rattle.packed_access.specs.Mdio.{wordsMdio, getMdio}
 use Rattle.packed_access.specs.Tape.{wordAt}
@@ -22,6 +22,6 @@ put-mdio-spec =
     (λ c. search needs)
     (λ c κs. search needs)
     (λ c κs. search needs)
-    (λ c. (simp (c .before .before .enum-told .given .1, c .before .word .ensures, c .zeros .ensures, added-more), λ rest. simp (c .before .before .enum-told .given .1)))
-    (λ c. (simp (c .before .before .before .before .s .given .1, c .before .before .word2 .ensures, c .before .put-mdio-place .ensures .0, c .put-cycle .ensures .0, added-more), λ rest. simp (c .before .before .before .before .s .given .1, c .before .put-mdio-place .ensures .1, c .put-cycle .ensures .1, append-assoc, drop-mdio-place)))
-    (λ c. (simp (c .before .before .enum-told2 .given .1, c .before .word3 .ensures, c .zeros2 .ensures, added-more), λ rest. simp (c .before .before .enum-told2 .given .1))))
+    (λ c. (rw (c .before .before .before .before .enum-told .given .1) (then (c .before .before .word .ensures) (c .zeros .ensures)), λ rest. simp (c .before .before .before .before .enum-told .given .1)))
+    (λ c. (rw (c .before .before .before .before .before .before .before .s .given .1) (then (c .before .before .before .before .word2 .ensures) (then (c .before .before .put-mdio-place .ensures .0) (c .put-cycle .ensures .0))), λ rest. simp (c .before .before .before .before .before .before .before .s .given .1, c .before .before .put-mdio-place .ensures .1, c .put-cycle .ensures .1, append-assoc, drop-mdio-place)))
+    (λ c. (rw (c .before .before .before .before .enum-told2 .given .1) (then (c .before .before .word3 .ensures) (c .zeros2 .ensures)), λ rest. simp (c .before .before .before .before .enum-told2 .given .1))))

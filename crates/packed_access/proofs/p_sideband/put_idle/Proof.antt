@@ -1,5 +1,5 @@
 use borrow.Author.Needs.{needs}
-use Rattle.packed_access.proofs.Laws.{added-more}
+use Rattle.packed_access.proofs.Laws.{then}
 use Rattle.packed_access.specs.Sideband.{wordsIdle, getIdle}
 use Rattle.packed_access.specs.Tape.{wordAt}
 use Rattle.packed_access.proofs.p_sideband.put_idle.Statement.{statement}
@@ -18,5 +18,5 @@ put-idle-spec =
     (λ c κs. search needs)
     (λ c κs. search needs)
     (λ c κs. search needs)
-    (λ c. (simp (c .before .before .before .before .s .given .1, c .before .before .word .ensures, c .before .word2 .ensures, c .word3 .ensures, added-more), λ rest. simp (c .before .before .before .before .s .given .1)))
-    (λ c. (simp (c .before .before .before .before .s2 .given .1, c .before .before .word4 .ensures, c .before .word5 .ensures, c .word6 .ensures, added-more), λ rest. simp (c .before .before .before .before .s2 .given .1))))
+    (λ c. (rw (c .before .before .before .before .before .before .before .s .given .1) (then (c .before .before .before .before .word .ensures) (then (c .before .before .word2 .ensures) (c .word3 .ensures))), λ rest. simp (c .before .before .before .before .before .before .before .s .given .1)))
+    (λ c. (rw (c .before .before .before .before .before .before .before .s2 .given .1) (then (c .before .before .before .before .word4 .ensures) (then (c .before .before .word5 .ensures) (c .word6 .ensures))), λ rest. simp (c .before .before .before .before .before .before .before .s2 .given .1))))

@@ -1,6 +1,6 @@
 use borrow.Author.Needs.{needs}
 use mathlib.Core.List.{append-assoc}
-use Rattle.packed_access.proofs.Laws.{added-more}
+use Rattle.packed_access.proofs.Laws.{then}
 use Rattle.packed_access.specs.Sync.{wordsLock, getLock}
 use Rattle.packed_access.specs.Tape.{wordAt}
 use Rattle.packed_access.proofs.p_sync.put_lock.Statement.{statement}
@@ -29,8 +29,8 @@ put-lock-spec =
     (λ c. search needs)
     (λ c κs. search needs)
     (λ c κs. search needs)
-    (λ c. (simp (c .before .before .before .s .given .1, c .before .word .ensures, c .put-smbi .ensures .0, added-more), λ rest. simp (c .before .before .before .s .given .1, c .put-smbi .ensures .1, append-assoc)))
-    (λ c. (simp (c .before .before .before .before .s2 .given .1, c .before .before .word2 .ensures, c .before .word3 .ensures, c .word4 .ensures, added-more), λ rest. simp (c .before .before .before .before .s2 .given .1)))
-    (λ c. (simp (c .before .before .before .before .s3 .given .1, c .before .before .word5 .ensures, c .before .word6 .ensures, c .word7 .ensures, added-more), λ rest. simp (c .before .before .before .before .s3 .given .1)))
-    (λ c. (simp (c .before .before .before .before .s4 .given .1, c .before .before .word8 .ensures, c .before .put-clear .ensures .0, c .word9 .ensures, added-more), λ rest. simp (c .before .before .before .before .s4 .given .1, c .before .put-clear .ensures .1, append-assoc)))
-    (λ c. (simp (c .before .before .enum-told .given .1, c .before .word10 .ensures, c .zeros .ensures, added-more), λ rest. simp (c .before .before .enum-told .given .1))))
+    (λ c. (rw (c .before .before .before .before .before .s .given .1) (then (c .before .before .word .ensures) (c .put-smbi .ensures .0)), λ rest. simp (c .before .before .before .before .before .s .given .1, c .put-smbi .ensures .1, append-assoc)))
+    (λ c. (rw (c .before .before .before .before .before .before .before .s2 .given .1) (then (c .before .before .before .before .word2 .ensures) (then (c .before .before .word3 .ensures) (c .word4 .ensures))), λ rest. simp (c .before .before .before .before .before .before .before .s2 .given .1)))
+    (λ c. (rw (c .before .before .before .before .before .before .before .s3 .given .1) (then (c .before .before .before .before .word5 .ensures) (then (c .before .before .word6 .ensures) (c .word7 .ensures))), λ rest. simp (c .before .before .before .before .before .before .before .s3 .given .1)))
+    (λ c. (rw (c .before .before .before .before .before .before .before .s4 .given .1) (then (c .before .before .before .before .word8 .ensures) (then (c .before .before .put-clear .ensures .0) (c .word9 .ensures))), λ rest. simp (c .before .before .before .before .before .before .before .s4 .given .1, c .before .before .put-clear .ensures .1, append-assoc)))
+    (λ c. (rw (c .before .before .before .before .enum-told .given .1) (then (c .before .before .word10 .ensures) (c .zeros .ensures)), λ rest. simp (c .before .before .before .before .enum-told .given .1))))

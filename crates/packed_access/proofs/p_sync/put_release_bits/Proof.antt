@@ -1,6 +1,6 @@
 use borrow.Author.Needs.{needs}
 use mathlib.Core.List.{append-assoc}
-use Rattle.packed_access.proofs.Laws.{added-more}
+use Rattle.packed_access.proofs.Laws.{then}
 use Rattle.packed_access.proofs.Width.Hardware.{drop-unit}
 use Rattle.packed_access.specs.Sync.{wordsReleaseBits, getReleaseBits}
 use Rattle.packed_access.specs.Tape.{wordAt}
@@ -31,8 +31,8 @@ put-release-bits-spec =
     (λ c. search needs)
     (λ c κs. search needs)
     (λ c κs. search needs)
-    (λ c. (simp (c .before .before .before .before .s .given .1, c .before .before .word .ensures, c .before .put-set-mux .ensures .0, c .zeros .ensures, added-more), λ rest. simp (c .before .before .before .before .s .given .1, c .before .put-set-mux .ensures .1, append-assoc)))
-    (λ c. (simp (c .before .before .before .before .s2 .given .1, c .before .before .word2 .ensures, c .before .put-lock .ensures .0, c .zeros2 .ensures, added-more), λ rest. simp (c .before .before .before .before .s2 .given .1, c .before .put-lock .ensures .1, append-assoc)))
-    (λ c. (simp (c .before .before .before .before .s3 .given .1, c .before .before .word3 .ensures, c .before .put-clear .ensures .0, c .zeros3 .ensures, added-more), λ rest. simp (c .before .before .before .before .s3 .given .1, c .before .put-clear .ensures .1, append-assoc)))
-    (λ c. (simp (c .before .before .before .before .s4 .given .1, c .before .before .word4 .ensures, c .before .put-unit .ensures .0, c .put-unlock .ensures .0, added-more), λ rest. simp (c .before .before .before .before .s4 .given .1, c .before .put-unit .ensures .1, c .put-unlock .ensures .1, append-assoc, drop-unit)))
-    (λ c. (simp (c .before .before .enum-told .given .1, c .before .word5 .ensures, c .zeros4 .ensures, added-more), λ rest. simp (c .before .before .enum-told .given .1))))
+    (λ c. (rw (c .before .before .before .before .before .before .before .s .given .1) (then (c .before .before .before .before .word .ensures) (then (c .before .before .put-set-mux .ensures .0) (c .zeros .ensures))), λ rest. simp (c .before .before .before .before .before .before .before .s .given .1, c .before .before .put-set-mux .ensures .1, append-assoc)))
+    (λ c. (rw (c .before .before .before .before .before .before .before .s2 .given .1) (then (c .before .before .before .before .word2 .ensures) (then (c .before .before .put-lock .ensures .0) (c .zeros2 .ensures))), λ rest. simp (c .before .before .before .before .before .before .before .s2 .given .1, c .before .before .put-lock .ensures .1, append-assoc)))
+    (λ c. (rw (c .before .before .before .before .before .before .before .s3 .given .1) (then (c .before .before .before .before .word3 .ensures) (then (c .before .before .put-clear .ensures .0) (c .zeros3 .ensures))), λ rest. simp (c .before .before .before .before .before .before .before .s3 .given .1, c .before .before .put-clear .ensures .1, append-assoc)))
+    (λ c. (rw (c .before .before .before .before .before .before .before .s4 .given .1) (then (c .before .before .before .before .word4 .ensures) (then (c .before .before .put-unit .ensures .0) (c .put-unlock .ensures .0))), λ rest. simp (c .before .before .before .before .before .before .before .s4 .given .1, c .before .before .put-unit .ensures .1, c .put-unlock .ensures .1, append-assoc, drop-unit)))
+    (λ c. (rw (c .before .before .before .before .enum-told .given .1) (then (c .before .before .word5 .ensures) (c .zeros4 .ensures)), λ rest. simp (c .before .before .before .before .enum-told .given .1))))

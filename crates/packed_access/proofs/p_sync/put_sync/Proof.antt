@@ -1,6 +1,6 @@
 use borrow.Author.Needs.{needs}
 use mathlib.Core.List.{append-assoc}
-use Rattle.packed_access.proofs.Laws.{added-more, is-flag}
+use Rattle.packed_access.proofs.Laws.{then, is-flag}
 use Rattle.packed_access.specs.Sync.{wordsSync, getSync}
 use Rattle.packed_access.specs.Tape.{wordAt}
 use Rattle.packed_access.proofs.p_sync.put_sync.Statement.{statement}
@@ -23,5 +23,5 @@ put-sync-spec =
     (λ c κs. search needs)
     (λ c κs. search needs)
     (λ c κs. search needs)
-    (λ c. (simp (c .before .before .before .before .before .before .s .given .1, c .before .before .before .before .word .ensures, c .before .before .before .word2 .ensures, c .before .before .word3 .ensures, c .before .flag .ensures, c .put-acquire-bits .ensures .0, added-more), λ rest. simp (c .before .before .before .before .before .before .s .given .1, is-flag, c .put-acquire-bits .ensures .1, append-assoc)))
-    (λ c. (simp (c .before .before .before .before .before .before .s2 .given .1, c .before .before .before .before .word4 .ensures, c .before .before .before .word5 .ensures, c .before .before .word6 .ensures, c .before .put-release-bits .ensures .0, c .word7 .ensures, added-more), λ rest. simp (c .before .before .before .before .before .before .s2 .given .1, c .before .put-release-bits .ensures .1, append-assoc))))
+    (λ c. (rw (c .before .before .before .before .before .before .before .before .before .before .before .s .given .1) (then (c .before .before .before .before .before .before .before .before .word .ensures) (then (c .before .before .before .before .before .before .word2 .ensures) (then (c .before .before .before .before .word3 .ensures) (then (c .before .before .flag .ensures) (c .put-acquire-bits .ensures .0))))), λ rest. simp (c .before .before .before .before .before .before .before .before .before .before .before .s .given .1, is-flag, c .put-acquire-bits .ensures .1, append-assoc)))
+    (λ c. (rw (c .before .before .before .before .before .before .before .before .before .before .before .s2 .given .1) (then (c .before .before .before .before .before .before .before .before .word4 .ensures) (then (c .before .before .before .before .before .before .word5 .ensures) (then (c .before .before .before .before .word6 .ensures) (then (c .before .before .put-release-bits .ensures .0) (c .word7 .ensures))))), λ rest. simp (c .before .before .before .before .before .before .before .before .before .before .before .s2 .given .1, c .before .before .put-release-bits .ensures .1, append-assoc))))

@@ -1,6 +1,6 @@
 use borrow.Author.Needs.{needs}
 use mathlib.Core.List.{append-assoc}
-use Rattle.packed_access.proofs.Laws.{added-more}
+use Rattle.packed_access.proofs.Laws.{then}
 use Rattle.packed_access.specs.Sync.{wordsUnlock, getUnlock}
 use Rattle.packed_access.specs.Tape.{wordAt}
 use Rattle.packed_access.proofs.p_sync.put_unlock.Statement.{statement}
@@ -20,6 +20,6 @@ put-unlock-spec =
     (λ c. search needs)
     (λ c κs. search needs)
     (λ c κs. search needs)
-    (λ c. (simp (c .before .before .before .s .given .1, c .before .word .ensures, c .put-clear .ensures .0, added-more), λ rest. simp (c .before .before .before .s .given .1, c .put-clear .ensures .1, append-assoc)))
-    (λ c. (simp (c .before .before .before .s2 .given .1, c .before .word2 .ensures, c .put-clear2 .ensures .0, added-more), λ rest. simp (c .before .before .before .s2 .given .1, c .put-clear2 .ensures .1, append-assoc)))
-    (λ c. (simp (c .before .before .enum-told .given .1, c .before .word3 .ensures, c .word4 .ensures, added-more), λ rest. simp (c .before .before .enum-told .given .1))))
+    (λ c. (rw (c .before .before .before .before .before .s .given .1) (then (c .before .before .word .ensures) (c .put-clear .ensures .0)), λ rest. simp (c .before .before .before .before .before .s .given .1, c .put-clear .ensures .1, append-assoc)))
+    (λ c. (rw (c .before .before .before .before .before .s2 .given .1) (then (c .before .before .word2 .ensures) (c .put-clear2 .ensures .0)), λ rest. simp (c .before .before .before .before .before .s2 .given .1, c .put-clear2 .ensures .1, append-assoc)))
+    (λ c. (rw (c .before .before .before .before .enum-told .given .1) (then (c .before .before .word3 .ensures) (c .word4 .ensures)), λ rest. simp (c .before .before .before .before .enum-told .given .1))))

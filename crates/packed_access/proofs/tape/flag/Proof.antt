@@ -8,5 +8,7 @@ flag-spec =
     (tie.spec
     (λ c κs. search needs)
     (λ c κs. search needs)
-    (λ c. simp (c .before .if1 .taken, c .word .ensures))
-    (λ c. simp (c .before .if1 .left, c .word2 .ensures)))
+    (λ c. search needs)
+    (λ c. rw (c .before .before .before .before .if1 .taken) (c .before .before .word .ensures))
+    (λ c. search needs)
+    (λ c. rw (c .before .before .before .before .if1 .left) (c .before .before .word2 .ensures)))

@@ -1,6 +1,6 @@
 use borrow.Author.Needs.{needs}
-use Rattle.packed_access.proofs.Laws.{added-more}
 use native.Mathlib.Omega.{arith}
+use Rattle.packed_access.proofs.Laws.{then}
 use Rattle.packed_access.proofs.tape.long.Statement.{statement}
 use Rattle.packed_access.proofs.tape.long.Tie as tie
 
@@ -12,4 +12,5 @@ long-spec =
     (λ c. omega arith)
     (λ c κs. search needs)
     (λ c κs. search needs)
-    (λ c. simp (c .before .word .ensures, c .word2 .ensures, added-more)))
+    (λ c. search needs)
+    (λ c. then (c .before .before .before .before .before .before .word .ensures) (c .before .before .word2 .ensures)))

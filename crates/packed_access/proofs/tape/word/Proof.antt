@@ -1,5 +1,7 @@
 use borrow.Author.Needs.{needs}
-use Rattle.packed_access.proofs.Laws.{room, full}
+use denote.Ref.{now}
+use mathlib.Core.List.{[], _∷_}
+use Rattle.packed_access.proofs.Laws.{one, left-out}
 use Rattle.packed_access.proofs.tape.word.Statement.{statement}
 use Rattle.packed_access.proofs.tape.word.Tie as tie
 
@@ -10,5 +12,6 @@ word-spec =
     (λ c. search needs)
     (λ c. search needs)
     (λ c. search needs)
-    (λ c. room _ _ (search needs) _ (c .before .if1 .taken))
-    (λ c. full _ _ (search needs) _ (c .if1 .left)))
+    (λ c. search needs)
+    (λ c. one (c .before .args .at) (now (c .before .args .tape)) (c .before .args .w) (c .if1 .taken))
+    (λ c. left-out (c .before .args .at) (now (c .before .args .tape)) (c .before .args .w ∷ []) (c .if1 .left)))

@@ -1,8 +1,8 @@
 use borrow.Author.Needs.{needs}
 use mathlib.Core.List.{append-assoc}
-use Rattle.packed_access.proofs.Laws.{added-more, is-flag}
-use Rattle.packed_after.proofs.Width.Answers.{drop-internal}
-use Rattle.packed_after.proofs.Width.Answers.{drop-maybe-status}
+use Rattle.packed_access.proofs.Laws.{then, is-flag}
+use Rattle.packed_answers.proofs.Width.Answers.{drop-internal}
+use Rattle.packed_answers.proofs.Width.Answers.{drop-maybe-status}
 use Rattle.packed_after.specs.Operations.{wordsAfter, getAfter}
 use Rattle.packed_access.specs.Tape.{wordAt}
 use Rattle.packed_after.proofs.p_operations.put_after.Statement.{statement}
@@ -66,15 +66,15 @@ put-after-spec =
     (λ c κs. search needs)
     (λ c κs. search needs)
     (λ c κs. search needs)
-    (λ c. (simp (c .before .before .enum-told .given .1, c .before .word .ensures, c .zeros .ensures, added-more), λ rest. simp (c .before .before .enum-told .given .1)))
-    (λ c. (simp (c .before .before .enum-told2 .given .1, c .before .word2 .ensures, c .zeros2 .ensures, added-more), λ rest. simp (c .before .before .enum-told2 .given .1)))
-    (λ c. (simp (c .before .before .enum-told3 .given .1, c .before .word3 .ensures, c .zeros3 .ensures, added-more), λ rest. simp (c .before .before .enum-told3 .given .1)))
-    (λ c. (simp (c .before .before .enum-told4 .given .1, c .before .word4 .ensures, c .zeros4 .ensures, added-more), λ rest. simp (c .before .before .enum-told4 .given .1)))
-    (λ c. (simp (c .before .before .enum-told5 .given .1, c .before .word5 .ensures, c .zeros5 .ensures, added-more), λ rest. simp (c .before .before .enum-told5 .given .1)))
-    (λ c. (simp (c .before .before .before .before .s .given .1, c .before .before .word6 .ensures, c .before .word7 .ensures, c .zeros6 .ensures, added-more), λ rest. simp (c .before .before .before .before .s .given .1)))
-    (λ c. (simp (c .before .before .before .before .s2 .given .1, c .before .before .word8 .ensures, c .before .flag .ensures, c .zeros7 .ensures, added-more), λ rest. simp (c .before .before .before .before .s2 .given .1, is-flag)))
-    (λ c. (simp (c .before .before .before .before .before .before .before .before .before .before .before .s3 .given .1, c .before .before .before .before .before .before .before .before .word9 .ensures, c .before .before .before .before .before .before .before .wide .ensures .0, c .before .before .before .before .before .before .word10 .ensures, c .before .before .before .before .before .word11 .ensures, c .before .before .before .before .word12 .ensures, c .before .before .before .word13 .ensures, c .before .before .word14 .ensures, c .before .put-activity .ensures .0, c .zeros8 .ensures, added-more), λ rest. simp (c .before .before .before .before .before .before .before .before .before .before .before .s3 .given .1, c .before .before .before .before .before .before .before .wide .ensures .1, c .before .put-activity .ensures .1, append-assoc)))
-    (λ c. (simp (c .before .before .before .before .s4 .given .1, c .before .before .word15 .ensures, c .before .put-mdio .ensures .0, c .zeros9 .ensures, added-more), λ rest. simp (c .before .before .before .before .s4 .given .1, c .before .put-mdio .ensures .1, append-assoc)))
-    (λ c. (simp (c .before .before .before .before .s5 .given .1, c .before .before .word16 .ensures, c .before .put-kr .ensures .0, c .zeros10 .ensures, added-more), λ rest. simp (c .before .before .before .before .s5 .given .1, c .before .put-kr .ensures .1, append-assoc)))
-    (λ c. (simp (c .before .before .before .before .s6 .given .1, c .before .before .word17 .ensures, c .before .flag2 .ensures, c .put-bringup .ensures .0, added-more), λ rest. simp (c .before .before .before .before .s6 .given .1, is-flag, c .put-bringup .ensures .1, append-assoc)))
-    (λ c. (simp (c .before .before .before .before .before .before .before .before .s7 .given .1, c .before .before .before .before .before .before .word18 .ensures, c .before .before .before .before .before .word19 .ensures, c .before .before .before .before .word20 .ensures, c .before .before .before .put-internal .ensures .0, c .before .before .put-maybe-status .ensures .0, c .before .put-poll .ensures .0, c .zeros11 .ensures, added-more) (simp append-assoc), λ rest. simp (c .before .before .before .before .before .before .before .before .s7 .given .1, c .before .before .before .put-internal .ensures .1, c .before .before .put-maybe-status .ensures .1, c .before .put-poll .ensures .1, append-assoc, drop-internal, drop-maybe-status))))
+    (λ c. (rw (c .before .before .before .before .enum-told .given .1) (then (c .before .before .word .ensures) (c .zeros .ensures)), λ rest. simp (c .before .before .before .before .enum-told .given .1)))
+    (λ c. (rw (c .before .before .before .before .enum-told2 .given .1) (then (c .before .before .word2 .ensures) (c .zeros2 .ensures)), λ rest. simp (c .before .before .before .before .enum-told2 .given .1)))
+    (λ c. (rw (c .before .before .before .before .enum-told3 .given .1) (then (c .before .before .word3 .ensures) (c .zeros3 .ensures)), λ rest. simp (c .before .before .before .before .enum-told3 .given .1)))
+    (λ c. (rw (c .before .before .before .before .enum-told4 .given .1) (then (c .before .before .word4 .ensures) (c .zeros4 .ensures)), λ rest. simp (c .before .before .before .before .enum-told4 .given .1)))
+    (λ c. (rw (c .before .before .before .before .enum-told5 .given .1) (then (c .before .before .word5 .ensures) (c .zeros5 .ensures)), λ rest. simp (c .before .before .before .before .enum-told5 .given .1)))
+    (λ c. (rw (c .before .before .before .before .before .before .before .s .given .1) (then (c .before .before .before .before .word6 .ensures) (then (c .before .before .word7 .ensures) (c .zeros6 .ensures))), λ rest. simp (c .before .before .before .before .before .before .before .s .given .1)))
+    (λ c. (rw (c .before .before .before .before .before .before .before .s2 .given .1) (then (c .before .before .before .before .word8 .ensures) (then (c .before .before .flag .ensures) (c .zeros7 .ensures))), λ rest. simp (c .before .before .before .before .before .before .before .s2 .given .1, is-flag)))
+    (λ c. (rw (c .before .before .before .before .before .before .before .before .before .before .before .before .before .before .before .before .before .before .before .s3 .given .1) (then (c .before .before .before .before .before .before .before .before .before .before .before .before .before .before .before .word9 .ensures) (then (rw (c .before .before .before .before .before .before .before .before .before .before .before .before .before .wide .ensures .0) at (c .before .before .before .before .before .before .before .before .before .before .before .before .word10 .ensures)) (then (c .before .before .before .before .before .before .before .before .before .before .word11 .ensures) (then (c .before .before .before .before .before .before .before .before .word12 .ensures) (then (c .before .before .before .before .before .before .word13 .ensures) (then (c .before .before .before .before .word14 .ensures) (then (c .before .before .put-activity .ensures .0) (c .zeros8 .ensures)))))))), λ rest. simp (c .before .before .before .before .before .before .before .before .before .before .before .before .before .before .before .before .before .before .before .s3 .given .1, c .before .before .before .before .before .before .before .before .before .before .before .before .before .wide .ensures .1, c .before .before .put-activity .ensures .1, append-assoc)))
+    (λ c. (rw (c .before .before .before .before .before .before .before .s4 .given .1) (then (c .before .before .before .before .word15 .ensures) (then (c .before .before .put-mdio .ensures .0) (c .zeros9 .ensures))), λ rest. simp (c .before .before .before .before .before .before .before .s4 .given .1, c .before .before .put-mdio .ensures .1, append-assoc)))
+    (λ c. (rw (c .before .before .before .before .before .before .before .s5 .given .1) (then (c .before .before .before .before .word16 .ensures) (then (c .before .before .put-kr .ensures .0) (c .zeros10 .ensures))), λ rest. simp (c .before .before .before .before .before .before .before .s5 .given .1, c .before .before .put-kr .ensures .1, append-assoc)))
+    (λ c. (rw (c .before .before .before .before .before .before .before .s6 .given .1) (then (c .before .before .before .before .word17 .ensures) (then (c .before .before .flag2 .ensures) (c .put-bringup .ensures .0))), λ rest. simp (c .before .before .before .before .before .before .before .s6 .given .1, is-flag, c .put-bringup .ensures .1, append-assoc)))
+    (λ c. (rw (c .before .before .before .before .before .before .before .before .before .before .before .before .before .before .before .s7 .given .1) (then (c .before .before .before .before .before .before .before .before .before .before .before .before .word18 .ensures) (then (c .before .before .before .before .before .before .before .before .before .before .word19 .ensures) (then (c .before .before .before .before .before .before .before .before .word20 .ensures) (then (c .before .before .before .before .before .before .put-internal .ensures .0) (then (c .before .before .before .before .put-maybe-status .ensures .0) (then (c .before .before .put-poll .ensures .0) (c .zeros11 .ensures))))))), λ rest. simp (c .before .before .before .before .before .before .before .before .before .before .before .before .before .before .before .s7 .given .1, c .before .before .before .before .before .before .put-internal .ensures .1, c .before .before .before .before .put-maybe-status .ensures .1, c .before .before .put-poll .ensures .1, append-assoc, drop-internal, drop-maybe-status))))

@@ -1,5 +1,5 @@
 use borrow.Author.Needs.{needs}
-use Rattle.packed_access.proofs.Laws.{added-more, is-flag}
+use Rattle.packed_access.proofs.Laws.{then, is-flag}
 use Rattle.packed_after.specs.Phy.{wordsMaybeFlag, getMaybeFlag}
 use Rattle.packed_access.specs.Tape.{wordAt}
 use Rattle.packed_after.proofs.p_phy.put_maybe_flag.Statement.{statement}
@@ -16,5 +16,5 @@ put-maybe-flag-spec =
     (λ c. search needs)
     (λ c κs. search needs)
     (λ c κs. search needs)
-    (λ c. (simp (c .before .before .enum-told .given .1, c .before .word .ensures, c .word2 .ensures, added-more), λ rest. simp (c .before .before .enum-told .given .1)))
-    (λ c. (simp (c .before .before .before .s .given .1, c .before .word3 .ensures, c .flag .ensures, added-more), λ rest. simp (c .before .before .before .s .given .1, is-flag))))
+    (λ c. (rw (c .before .before .before .before .enum-told .given .1) (then (c .before .before .word .ensures) (c .word2 .ensures)), λ rest. simp (c .before .before .before .before .enum-told .given .1)))
+    (λ c. (rw (c .before .before .before .before .before .s .given .1) (then (c .before .before .word3 .ensures) (c .flag .ensures)), λ rest. simp (c .before .before .before .before .before .s .given .1, is-flag))))

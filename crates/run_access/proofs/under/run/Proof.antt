@@ -5,7 +5,6 @@ use borrow.Author.Needs.{needs}
 use Rattle.hardware.specs.Talk.{end}
 use Rattle.access.specs.Access.{toldAccess}
 use Rattle.access.specs.declared.access.Access.{Access}
-use Rattle.drive.specs.Moves.{stays}
 use Rattle.drive.proofs.Laws.{told-as, from-as, inside}
 use Rattle.access.specs.declared.access.AccessStep.the-variants as accessstep
 use Rattle.run_access.proofs.under.run.Statement.{statement}
@@ -24,4 +23,6 @@ run-spec =
     let g = m .before .before .before .before .args in
     from-as (ap (λ (s : Access). toldAccess (g .port) (now (g .block)) (accessstep.Ask (g .a) s)) (m .s .given .1))
     (told-as (sym (c .under .ensures _)) (inside (λ r. end (r, [])) (d .run .ensures))))
-    (λ c. stays))
+    (λ c κs. search needs)
+    (λ c. search needs)
+    (λ c. search needs))

@@ -1,10 +1,11 @@
-use mathlib.Core.Path.{ap}
-use denote.Ref.{now}
+use Prim.Native.Nat.{_-_}
+use mathlib.Core.Path.{_≡_, refl}
 use borrow.Author.Needs.{needs}
-use Rattle.drive.specs.Moves.{stays}
-use Rattle.drive.proofs.Laws.{from-as}
+use lib.ListN.{length}
+use Rattle.drive.specs.Moves.{tape, Moves, stays}
+use Rattle.drive.proofs.Laws.{then, from-as, moves-less}
 use Rattle.started.specs.Operation.{told}
-use Rattle.started.specs.declared.operation.Place.{Place}
+use Rattle.started.proofs.Laws.{told-at}
 use Rattle.started.proofs.operation.OpRan.ahead.Statement.{statement}
 use Rattle.started.proofs.operation.OpRan.ahead.Tie as tie
 
@@ -12,11 +13,16 @@ pub ahead-spec : {M : Type 1} → statement M
 ahead-spec =
     tie.close
     (tie.spec
+    (λ port b₀ replies t₀ ran₀ b t ran.
+    (length t ≡ length t₀) × Moves replies (told port (ran₀ .place) b₀) (tape (ran₀ .host) t₀) (told port (ran .place) b) (tape (ran .host) t))
+    (λ port b₀ replies t₀ ran₀ b t ran. length t - ran .host .at)
+    (λ c. (refl, stays))
     (λ c. search needs)
+    (λ c. search needs)
+    (λ c. c .before .before .before .loop .inv .1)
     (λ c. search needs)
     (λ c κs. search needs)
-    (λ c. stays)
     (λ c. search needs)
-    (λ c. let m = c .before .before .before .before .before .before in
-    let g = m .before .before .before .before .before .args in
-    from-as (ap (λ (p : Place). told (g .port) p (now (g .block))) (m .place .given .1)) (c .before .before .run .ensures)))
+    (λ c. then (c .before .before .before .before .before .before .before .before .before .before .before .before .before .loop .inv .1) (from-as (told-at _ _ (c .before .before .before .before .before .before .before .before .before .before .place .given .1)) (c .before .before .before .before .before .before .run .ensures)))
+    (λ c. moves-less (c .before .before .before .before .before .before .run .ensures) (c .if1 .left))
+    (λ c. (search needs, then (c .before .before .before .before .before .before .before .before .before .before .before .before .before .loop .inv .1) (from-as (told-at _ _ (c .before .before .before .before .before .before .before .before .before .before .place .given .1)) (c .before .before .before .before .before .before .run .ensures)))))

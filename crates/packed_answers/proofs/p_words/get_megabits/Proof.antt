@@ -1,0 +1,16 @@
+use borrow.Author.Needs.{needs}
+use borrow.Author.Tests.{eq-eqb, ne-eqb}
+use mathlib.Core.Path.{sym}
+use Rattle.packed_answers.specs.Words.{getMegabits}
+use Rattle.packed_answers.proofs.p_words.get_megabits.Statement.{statement}
+use Rattle.packed_answers.proofs.p_words.get_megabits.Tie as tie
+
+pub get-megabits-spec : {M : Type 1} → statement M
+unfolding getMegabits
+get-megabits-spec =
+    tie.close
+    (tie.spec
+    (λ c κs. search needs)
+    (λ c κs. search needs)
+    (λ c. simp (sym (c .before .word-at .ensures), eq-eqb _ _ (c .if1 .taken)))
+    (λ c. simp (sym (c .before .before .word-at .ensures), ne-eqb _ _ (c .before .if1 .left), c .word-at2 .ensures)))

@@ -1,0 +1,65 @@
+use borrow.Author.Needs.{needs}
+use borrow.Author.Tests.{eq-eqb, ne-eqb}
+use mathlib.Core.Path.{sym}
+use Rattle.packed_bringup.specs.X552.{getCopperLink}
+use Rattle.packed_bringup.proofs.p_x552.get_copper_link.Statement.{statement}
+use Rattle.packed_bringup.proofs.p_x552.get_copper_link.Tie as tie
+
+pub get-copper-link-spec : {M : Type 1} → statement M
+unfolding getCopperLink
+get-copper-link-spec =
+    tie.close
+    (tie.spec
+    (λ c κs. search needs)
+    (λ c κs. search needs)
+    (λ c κs. search needs)
+    (λ c κs. search needs)
+    (λ c κs. search needs)
+    (λ c κs. search needs)
+    (λ c κs. search needs)
+    (λ c κs. search needs)
+    (λ c κs. search needs)
+    (λ c κs. search needs)
+    (λ c κs. search needs)
+    (λ c κs. search needs)
+    (λ c κs. search needs)
+    (λ c κs. search needs)
+    (λ c κs. search needs)
+    (λ c κs. search needs)
+    (λ c κs. search needs)
+    (λ c κs. search needs)
+    (λ c κs. search needs)
+    (λ c κs. search needs)
+    (λ c κs. search needs)
+    (λ c κs. search needs)
+    (λ c κs. search needs)
+    (λ c κs. search needs)
+    (λ c κs. search needs)
+    (λ c κs. search needs)
+    (λ c κs. search needs)
+    (λ c κs. search needs)
+    (λ c κs. search needs)
+    (λ c κs. search needs)
+    (λ c κs. search needs)
+    (λ c κs. search needs)
+    (λ c κs. search needs)
+    (λ c κs. search needs)
+    (λ c κs. search needs)
+    (λ c κs. search needs)
+    (λ c κs. search needs)
+    (λ c κs. search needs)
+    (λ c κs. search needs)
+    (λ c κs. search needs)
+    (λ c κs. search needs)
+    (λ c κs. search needs)
+    (λ c κs. search needs)
+    (λ c κs. search needs)
+    (λ c κs. search needs)
+    (λ c κs. search needs)
+    (λ c κs. search needs)
+    (λ c. simp (sym (c .before .word-at .ensures), eq-eqb _ _ (c .if1 .taken)))
+    (λ c. simp (sym (c .before .before .before .before .before .before .before .before .before .before .before .before .before .before .before .word-at .ensures), ne-eqb _ _ (c .before .before .before .before .before .before .before .before .before .before .before .before .before .before .if1 .left), eq-eqb _ _ (c .before .before .before .before .before .before .before .before .before .before .before .before .before .if2 .taken), c .before .before .before .before .before .before .before .before .before .before .before .before .word-at2 .ensures, c .before .before .before .before .before .before .before .before .before .before .before .is .ensures, c .before .before .before .before .before .before .before .before .before .before .word-at3 .ensures, c .before .before .before .before .before .before .before .before .before .is2 .ensures, c .before .before .before .before .before .before .before .before .word-at4 .ensures, c .before .before .before .before .before .before .before .is3 .ensures, c .before .before .before .before .before .before .after .ensures, c .before .before .before .before .before .get-kr-place .ensures, c .before .before .before .before .after2 .ensures, c .before .before .before .get-maybe-word .ensures, c .before .before .after3 .ensures, c .before .after4 .ensures, c .get-kr-modify .ensures))
+    (λ c. simp (sym (c .before .before .before .before .before .before .before .before .before .before .word-at .ensures), ne-eqb _ _ (c .before .before .before .before .before .before .before .before .before .if1 .left), ne-eqb _ _ (c .before .before .before .before .before .before .before .before .if2 .left), eq-eqb _ _ (c .before .before .before .before .before .before .before .if3 .taken), c .before .before .before .before .before .before .word-at5 .ensures, c .before .before .before .before .before .is4 .ensures, c .before .before .before .before .word-at6 .ensures, c .before .before .before .is5 .ensures, c .before .before .word-at7 .ensures, c .before .is6 .ensures, c .word-at8 .ensures))
+    (λ c. simp (sym (c .before .before .before .before .before .before .before .before .before .before .before .word-at .ensures), ne-eqb _ _ (c .before .before .before .before .before .before .before .before .before .before .if1 .left), ne-eqb _ _ (c .before .before .before .before .before .before .before .before .before .if2 .left), ne-eqb _ _ (c .before .before .before .before .before .before .before .before .if3 .left), eq-eqb _ _ (c .before .before .before .before .before .before .before .if4 .taken), c .before .before .before .before .before .before .word-at9 .ensures, c .before .before .before .before .before .is7 .ensures, c .before .before .before .before .word-at10 .ensures, c .before .before .before .is8 .ensures, c .before .before .word-at11 .ensures, c .before .is9 .ensures, c .word-at12 .ensures))
+    (λ c. simp (sym (c .before .before .before .before .before .before .before .before .before .before .before .before .before .before .word-at .ensures), ne-eqb _ _ (c .before .before .before .before .before .before .before .before .before .before .before .before .before .if1 .left), ne-eqb _ _ (c .before .before .before .before .before .before .before .before .before .before .before .before .if2 .left), ne-eqb _ _ (c .before .before .before .before .before .before .before .before .before .before .before .if3 .left), ne-eqb _ _ (c .before .before .before .before .before .before .before .before .before .before .if4 .left), eq-eqb _ _ (c .before .before .before .before .before .before .before .before .before .if5 .taken), c .before .before .before .before .before .before .before .before .word-at13 .ensures, c .before .before .before .before .before .before .before .is10 .ensures, c .before .before .before .before .before .before .word-at14 .ensures, c .before .before .before .before .before .is11 .ensures, c .before .before .before .before .word-at15 .ensures, c .before .before .before .is12 .ensures, c .before .before .word-at16 .ensures, c .before .after5 .ensures, c .get-an-link .ensures))
+    (λ c. simp (sym (c .before .before .before .before .before .before .before .before .before .before .before .before .before .before .before .word-at .ensures), ne-eqb _ _ (c .before .before .before .before .before .before .before .before .before .before .before .before .before .before .if1 .left), ne-eqb _ _ (c .before .before .before .before .before .before .before .before .before .before .before .before .before .if2 .left), ne-eqb _ _ (c .before .before .before .before .before .before .before .before .before .before .before .before .if3 .left), ne-eqb _ _ (c .before .before .before .before .before .before .before .before .before .before .before .if4 .left), ne-eqb _ _ (c .before .before .before .before .before .before .before .before .before .before .if5 .left), c .before .before .before .before .before .before .before .before .before .word-at17 .ensures, c .before .before .before .before .before .before .before .before .is13 .ensures, c .before .before .before .before .before .before .before .word-at18 .ensures, c .before .before .before .before .before .before .is14 .ensures, c .before .before .before .before .before .word-at19 .ensures, c .before .before .before .before .is15 .ensures, c .before .before .before .after6 .ensures, c .before .before .get-advertise-place .ensures, c .before .after7 .ensures, c .get-modify .ensures)))
