@@ -6,12 +6,8 @@ use lib.ListN.{drop, replicate}
 use Rattle.hardware.specs.Talk.{pick}
 use Rattle.packed_access.specs.Tape.{wordAt, is, flagOf, joined}
 use Rattle.packed_access.specs.Hardware.{wordsUnit, getUnit}
-use Rattle.sync.specs.declared.bits.AcquireBits.the-variants as acquire-bitsv
-use Rattle.sync.specs.declared.bits.AcquireBits.{AcquireBits}
-use Rattle.sync.specs.declared.bits.ReleaseBits.the-variants as release-bitsv
-use Rattle.sync.specs.declared.bits.ReleaseBits.{ReleaseBits}
-use Rattle.sync.specs.declared.bits.SetMux.the-variants as set-muxv
-use Rattle.sync.specs.declared.bits.SetMux.{SetMux}
+use Rattle.sync.specs.declared.acquire_bits.AcquireBits.the-variants as acquire-bitsv
+use Rattle.sync.specs.declared.acquire_bits.AcquireBits.{AcquireBits}
 use Rattle.sync.specs.declared.lock.Clear.the-variants as clearv
 use Rattle.sync.specs.declared.lock.Clear.{Clear}
 use Rattle.sync.specs.declared.lock.Lock.the-variants as lockv
@@ -20,6 +16,10 @@ use Rattle.sync.specs.declared.lock.Smbi.the-variants as smbiv
 use Rattle.sync.specs.declared.lock.Smbi.{Smbi}
 use Rattle.sync.specs.declared.lock.Unlock.the-variants as unlockv
 use Rattle.sync.specs.declared.lock.Unlock.{Unlock}
+use Rattle.sync.specs.declared.release_bits.ReleaseBits.the-variants as release-bitsv
+use Rattle.sync.specs.declared.release_bits.ReleaseBits.{ReleaseBits}
+use Rattle.sync.specs.declared.set_mux.SetMux.the-variants as set-muxv
+use Rattle.sync.specs.declared.set_mux.SetMux.{SetMux}
 use Rattle.sync.specs.declared.sync.Sync.the-variants as syncv
 use Rattle.sync.specs.declared.sync.Sync.{Sync}
 

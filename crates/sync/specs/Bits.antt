@@ -1,4 +1,4 @@
--- What a suspended machine of bits.rt still says
+-- What a suspended set_mux, acquire_bits or release_bits still says
 use Prim.Native.Nat.{ℕ}
 use mathlib.Core.Bool.{Bool, true, false}
 use lib.Bits.{bitOr}
@@ -11,18 +11,18 @@ use Rattle.words.specs.declared.semaphore.Bits.{Bits}
 use Rattle.reference.specs.Sync.{acquireBitsTimes, acquireBitsGot, acquireBitsTaken, releaseBitsLocked}
 use Rattle.reference.specs.Sync as sync
 use Rattle.sync.specs.Lock.{resumeClear, resumeLock, resumeUnlock}
-use Rattle.sync.specs.declared.bits.SetMux.{SetMux}
-use Rattle.sync.specs.declared.bits.SetMux.the-variants as setmux
-use Rattle.sync.specs.declared.bits.SetMuxStep.{SetMuxStep}
-use Rattle.sync.specs.declared.bits.SetMuxStep.the-variants as setmuxstep
-use Rattle.sync.specs.declared.bits.AcquireBits.{AcquireBits}
-use Rattle.sync.specs.declared.bits.AcquireBits.the-variants as acquire
-use Rattle.sync.specs.declared.bits.AcquireBitsStep.{AcquireBitsStep}
-use Rattle.sync.specs.declared.bits.AcquireBitsStep.the-variants as acquirestep
-use Rattle.sync.specs.declared.bits.ReleaseBits.{ReleaseBits}
-use Rattle.sync.specs.declared.bits.ReleaseBits.the-variants as release
-use Rattle.sync.specs.declared.bits.ReleaseBitsStep.{ReleaseBitsStep}
-use Rattle.sync.specs.declared.bits.ReleaseBitsStep.the-variants as releasestep
+use Rattle.sync.specs.declared.set_mux.SetMux.{SetMux}
+use Rattle.sync.specs.declared.set_mux.SetMux.the-variants as setmux
+use Rattle.sync.specs.declared.set_mux.SetMuxStep.{SetMuxStep}
+use Rattle.sync.specs.declared.set_mux.SetMuxStep.the-variants as setmuxstep
+use Rattle.sync.specs.declared.acquire_bits.AcquireBits.{AcquireBits}
+use Rattle.sync.specs.declared.acquire_bits.AcquireBits.the-variants as acquire
+use Rattle.sync.specs.declared.acquire_bits.AcquireBitsStep.{AcquireBitsStep}
+use Rattle.sync.specs.declared.acquire_bits.AcquireBitsStep.the-variants as acquirestep
+use Rattle.sync.specs.declared.release_bits.ReleaseBits.{ReleaseBits}
+use Rattle.sync.specs.declared.release_bits.ReleaseBits.the-variants as release
+use Rattle.sync.specs.declared.release_bits.ReleaseBitsStep.{ReleaseBitsStep}
+use Rattle.sync.specs.declared.release_bits.ReleaseBitsStep.the-variants as releasestep
 
 abbrev pub muxRead : Bool → Res ℕ → Call (Unit {0})
 muxRead on v = end v >>= (λ esdp. write 0x20 (pick on (bitOr esdp 2) (without esdp 2)) >> flush)

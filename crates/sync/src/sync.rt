@@ -1,10 +1,10 @@
 // acquire_bits or release_bits of a port, with the register pair and the mux that it began with: no step looks them up again.
-use crate::bits::AcquireBits;
-use crate::bits::AcquireBitsStep;
-use crate::bits::ReleaseBits;
-use crate::bits::ReleaseBitsStep;
+use crate::acquire_bits::AcquireBits;
+use crate::acquire_bits::AcquireBitsStep;
 use crate::lock::Lock;
 use crate::lock::Smbi;
+use crate::release_bits::ReleaseBits;
+use crate::release_bits::ReleaseBitsStep;
 use drive::Host;
 use hardware::Action;
 use hardware::Family;

@@ -4,12 +4,8 @@ use mathlib.Core.Path.{_≡_, refl}
 use mathlib.Core.List.{List, _++_}
 use lib.ListN.{length, drop, length-append}
 use lib.Seq.{drop-at}
-use Rattle.sync.specs.declared.bits.AcquireBits.{AcquireBits}
-use Rattle.sync.specs.declared.bits.AcquireBits.the-variants as acquire-bitsv
-use Rattle.sync.specs.declared.bits.ReleaseBits.{ReleaseBits}
-use Rattle.sync.specs.declared.bits.ReleaseBits.the-variants as release-bitsv
-use Rattle.sync.specs.declared.bits.SetMux.{SetMux}
-use Rattle.sync.specs.declared.bits.SetMux.the-variants as set-muxv
+use Rattle.sync.specs.declared.acquire_bits.AcquireBits.{AcquireBits}
+use Rattle.sync.specs.declared.acquire_bits.AcquireBits.the-variants as acquire-bitsv
 use Rattle.sync.specs.declared.lock.Clear.{Clear}
 use Rattle.sync.specs.declared.lock.Clear.the-variants as clearv
 use Rattle.sync.specs.declared.lock.Lock.{Lock}
@@ -18,6 +14,10 @@ use Rattle.sync.specs.declared.lock.Smbi.{Smbi}
 use Rattle.sync.specs.declared.lock.Smbi.the-variants as smbiv
 use Rattle.sync.specs.declared.lock.Unlock.{Unlock}
 use Rattle.sync.specs.declared.lock.Unlock.the-variants as unlockv
+use Rattle.sync.specs.declared.release_bits.ReleaseBits.{ReleaseBits}
+use Rattle.sync.specs.declared.release_bits.ReleaseBits.the-variants as release-bitsv
+use Rattle.sync.specs.declared.set_mux.SetMux.{SetMux}
+use Rattle.sync.specs.declared.set_mux.SetMux.the-variants as set-muxv
 use Rattle.sync.specs.declared.sync.Sync.{Sync}
 use Rattle.sync.specs.declared.sync.Sync.the-variants as syncv
 use Rattle.packed_access.specs.Sync.{wordsSmbi, wordsClear, wordsLock, wordsUnlock, wordsSetMux, wordsAcquireBits, wordsReleaseBits, wordsSync}
