@@ -16,9 +16,10 @@ use Rattle.hardware.specs.declared.Error.the-variants.{Io, Removed, Timeout, Si
 use Rattle.hardware.specs.declared.Port.{Port}
 use Rattle.packed_access.proofs.Width.Hardware.{family-length}
 use Rattle.conversation.specs.Conversation.{Conv, Step, steppedOf, convOf, stepTalk, begun, number}
-use Rattle.started.specs.Operation.{phyOf, deviceOf, told}
+use Rattle.start.specs.Operation.{phyOf, deviceOf}
+use Rattle.started.specs.Operation.{told}
 use Rattle.conversation.specs.Run.{Shown, shownOf, tapeOf, left, runAll}
-use Rattle.started.specs.declared.operation.Operation.{Operation}
+use Rattle.start.specs.declared.operation.Operation.{Operation}
 use Rattle.conversation.specs.declared.conversation.Conversation.{Conversation}
 use Rattle.conversation.specs.declared.conversation.Stepped.{Stepped}
 use Rattle.conversation.specs.declared.conversation.Stop.{Stop}

@@ -11,14 +11,15 @@ use Rattle.answers.specs.Fields.{value}
 use Rattle.answers.specs.declared.Value.{Value}
 use Rattle.drive.specs.Act as act
 use Rattle.conversation.specs.Conversation.{Conv, Step, convOf, begun, number, stepTalk}
-use Rattle.started.specs.Operation.{Out, phyOf, deviceOf}
+use Rattle.start.specs.Operation.{phyOf, deviceOf}
+use Rattle.started.specs.Operation.{Out}
 use Rattle.drive.specs.Moves.{Tape}
 use Rattle.conversation.specs.Run.{Shown, tapeOf, left, runAll}
-use Rattle.started.specs.declared.operation.Operation.{Operation}
+use Rattle.start.specs.declared.operation.Operation.{Operation}
 use Rattle.trace.specs.declared.kinds.OperationLine.{OperationLine}
 use Rattle.trace.specs.declared.kinds.OperationLine.the-variants as line
-use Rattle.trace.specs.declared.port.PortLine.{PortLine}
-use Rattle.trace.specs.declared.port.PortLine.the-variants as port
+use Rattle.lines.specs.declared.port.PortLine.{PortLine}
+use Rattle.lines.specs.declared.port.PortLine.the-variants as port
 use Rattle.border.specs.Held.{heldBy, isHeld}
 use Rattle.border.specs.declared.held.Held.{Held}
 use Rattle.border.specs.declared.Asked.{Asked}

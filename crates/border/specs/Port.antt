@@ -3,8 +3,8 @@ use Prim.Native.Nat.{ℕ}
 use lib.Dec.{eqb, ltb}
 use Rattle.hardware.specs.Talk.{pick}
 use Rattle.hardware.specs.declared.Family.the-variants.{X552, X553}
-use Rattle.trace.specs.declared.port.PortLine.{PortLine}
-use Rattle.trace.specs.declared.port.PortLine.the-variants.{Is, Bad}
+use Rattle.lines.specs.declared.port.PortLine.{PortLine}
+use Rattle.lines.specs.declared.port.PortLine.the-variants.{Is, Bad}
 
 -- 552 or 553, a device id of 16 bits, any lan
 unfoldable pub portOf : ℕ → ℕ → ℕ → PortLine

@@ -1,7 +1,7 @@
 // A port from plain numbers.
 use hardware::Family;
 use hardware::Port;
-use trace::port::PortLine;
+use lines::port::PortLine;
 ghost use mathlib.Core.Path.{_≡_};
 ghost use Rattle.border.specs.Port.{portOf};
 

@@ -8,9 +8,9 @@ use Rattle.conversation.specs.Conversation.{Conv}
 use Rattle.conversation.specs.Run.{Shown, shownOf, left}
 use Rattle.conversation.specs.declared.run.Ran.{Ran}
 use Rattle.conversation.proofs.Theorems.{Placed, placed}
-use Rattle.trace.specs.Listing.{Added, actionText}
+use Rattle.lines.specs.Listing.{Added, actionText}
 use Rattle.console.specs.Turn.{linesText, ranThree, Turn}
-use Rattle.trace.proofs.ListingLaws.{added-none}
+use Rattle.lines.proofs.ListingLaws.{added-none}
 
 three : (l : List ℕ) → length l ≡ 3 → linesText (take 3 l) ≡ actionText (getD l 0 0) (getD l 1 0) (getD l 2 0)
 three [] h = absurd (omega arith)

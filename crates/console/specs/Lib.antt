@@ -1,4 +1,1 @@
-pub mod Part
-pub mod Input
-pub mod Reply
 pub mod Turn

@@ -5,7 +5,7 @@ use mathlib.Core.List.{List, [], _∷_, _++_}
 use lib.ListN.{take}
 use Rattle.conversation.specs.Conversation.{Conv, convOf}
 use Rattle.conversation.specs.Run.{Shown, left, runAll}
-use Rattle.trace.specs.Listing.{Added, actionText}
+use Rattle.lines.specs.Listing.{Added, actionText}
 use Rattle.console.specs.declared.turn.Turned.{Turned}
 
 -- a transcript's lines: three words an action

@@ -1,28 +1,9 @@
-// The listing's last lines.
-use crate::output::print;
+// What is printed at the conversation's end.
 use answers::Answer;
 use conversation::conversation::Conversation;
 use hardware::Unit;
-
-// The last line where the listing stops before the conversation's end.
-pub fn stop(number: u32, actions: u64, micros: u64, out: &mut [u8], n: usize) -> usize {
-    let mut line = [0u8; 512];
-    let len = trace::listing::stop_line(number, actions, micros, &mut line);
-    print(out, n, &line, len)
-}
-
-fn last(answer: Answer, c: Conversation, out: &mut [u8], n: usize) -> usize {
-    let mut line = [0u8; 512];
-    let block = c.block;
-    let len = trace::listing::end_line(answer, block, c.actions, c.micros, &mut line);
-    print(out, n, &line, len)
-}
-
-fn print_left(host: [u32; 16], words: u32, out: &mut [u8], n: usize) -> usize {
-    let mut line = [0u8; 512];
-    let len = trace::listing::left_line(host, words, &mut line);
-    print(out, n, &line, len)
-}
+use streams::ending::last;
+use streams::ending::print_left;
 
 // The host block as an ended `command` leaves it, after errors too. The listing has it after `end ok` alone.
 fn left(c: Conversation, words: usize, out: &mut [u8], n: usize) -> usize {
@@ -48,7 +29,8 @@ pub fn ended(
     out: &mut [u8],
     n: usize,
 ) -> usize {
-    let end = last(answer, c, out, n);
+    let block = c.block;
+    let end = last(answer, block, c.actions, c.micros, out, n);
     if asked {
         return left(c, words, out, end);
     }

@@ -1,10 +1,6 @@
 // A conversation over standard input and standard output: its lines are read, and its listing is printed.
 pub mod ahead;
 pub mod ending;
-pub mod input;
 pub mod listing;
-pub mod output;
-pub mod part;
-pub mod reply;
 pub mod talk;
 pub mod turn;

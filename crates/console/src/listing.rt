@@ -1,19 +1,19 @@
 // A listing, from the port's line on.
 use crate::ahead::Moved;
-use crate::ending::stop;
-use crate::input::Input;
-use crate::input::fetch;
-use crate::part::line_of;
-use crate::reply::BAD_LINE;
 use crate::talk::Listed;
 use crate::talk::talk;
 use conversation::conversation::Conversation;
 use hardware::Port;
-use started::operation::Operation;
+use lines::port::PortLine;
+use lines::port::port_line;
+use start::operation::Operation;
+use streams::due::BAD_LINE;
+use streams::ending::stop;
+use streams::input::Input;
+use streams::input::fetch;
+use streams::part::line_of;
 use trace::kinds::OperationLine;
 use trace::operation::operation_line;
-use trace::port::PortLine;
-use trace::port::port_line;
 ghost use mathlib.Core.Path.{_≡_};
 ghost use lib.ListN.{take};
 ghost use Rattle.conversation.specs.Conversation.{convOf, begun};

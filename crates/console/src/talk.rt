@@ -2,14 +2,14 @@
 use crate::ahead::Moved;
 use crate::ahead::ahead;
 use crate::ending::ended;
-use crate::ending::stop;
-use crate::input::Input;
-use crate::output::print;
-use crate::reply::Due;
-use crate::reply::answer;
 use crate::turn::turn;
 use conversation::conversation::Conversation;
 use started::operation::Place;
+use streams::due::Due;
+use streams::due::answer;
+use streams::ending::stop;
+use streams::input::Input;
+use streams::output::print;
 
 // What is left of the input behind a listing, and how many bytes wait to be written.
 pub struct Listed {

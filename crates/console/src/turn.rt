@@ -2,7 +2,7 @@
 use conversation::conversation::Conversation;
 use conversation::conversation::Stop;
 use conversation::run::run;
-use trace::listing::action_line;
+use lines::listing::action_line;
 ghost use Rattle.conversation.specs.Conversation.{convOf};
 ghost use Rattle.console.specs.Turn.{Turn};
 

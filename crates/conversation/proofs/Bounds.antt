@@ -13,9 +13,10 @@ use Rattle.reference.specs.Bounds.{actions, micros}
 use Rattle.reference.specs.Operations.{Op, operation}
 use Rattle.reference.proofs.Bounds.Operations.{operation-within, operation-fits, Fits}
 use Rattle.conversation.specs.Conversation.{started, begun}
-use Rattle.started.specs.Operation.{Out, opOf, phyOf, deviceOf}
-use Rattle.started.specs.declared.operation.Operation.{Operation}
-use Rattle.started.specs.declared.operation.Operation.the-variants as operationv
+use Rattle.start.specs.Operation.{opOf, phyOf, deviceOf}
+use Rattle.started.specs.Operation.{Out}
+use Rattle.start.specs.declared.operation.Operation.{Operation}
+use Rattle.start.specs.declared.operation.Operation.the-variants as operationv
 
 fits-begun : (what : Operation) (ws : List ℕ) → length ws ≤ 16 → Fits (opOf what ws)
 fits-begun operationv.Veto ws h = operation-fits _ (omega arith)

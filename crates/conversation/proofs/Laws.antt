@@ -6,7 +6,7 @@ use mathlib.Core.List.{List, [], _∷_, _++_, append-nil}
 use native.Mathlib.Omega.{arith}
 use native.Mathlib.Numerals.{add-one, add-two}
 use native.Mathlib.Nat.{add-assoc, zero-add, add-zero, add-suc, suc-add}
-use borrow.Author.Tests.{eq-eqb, ne-eqb, lt-ltb, le-ltb}
+use borrow.Author.Tests.{lt-ltb, le-ltb}
 use lib.ListN.{length, take, drop, take-append-drop, getD, set, replicate, length-drop, drop-of-length-le}
 use lib.Seq.{sets, drop-cons, drop-drop, length-sets, paste, paste-suc, length-take-le, take-all, take-length, take-at, length-paste}
 use Rattle.hardware.specs.Refusal.{refusal}
@@ -16,13 +16,13 @@ use Rattle.reference.specs.Operations.{operation}
 use Rattle.hardware.specs.declared.Action.{Action}
 use Rattle.hardware.specs.declared.Action.the-variants.{Read, Write, Wait}
 use Rattle.hardware.specs.declared.Reply.{Reply}
-use Rattle.hardware.specs.declared.Reply.the-variants as reply
-use Rattle.drive.specs.Act.{uses, words, replyOf, replyFor}
+use Rattle.drive.specs.Act.{uses, words, replyFor}
 use Rattle.drive.specs.Moves.{Tape, onTape, tape, Moves, stays, goes}
 use Rattle.drive.specs.declared.Host.{Host}
 use Rattle.drive.proofs.Laws.{act-done, told-as}
-use Rattle.conversation.specs.Conversation.{Conv, convOf, gone, stepTalk, padded, opening, begun}
-use Rattle.started.specs.Operation.{Out, told, phyOf, deviceOf, opOf}
+use Rattle.conversation.specs.Conversation.{Conv, convOf, gone, refuses, stepTalk, padded, opening, begun}
+use Rattle.start.specs.Operation.{phyOf, deviceOf, opOf}
+use Rattle.started.specs.Operation.{Out, told}
 use Rattle.conversation.specs.Run.{
   Run,
   Shown,
@@ -41,7 +41,7 @@ use Rattle.conversation.specs.Run.{
 }
 use Rattle.conversation.specs.declared.conversation.Stop.the-variants.{Done, AfterEnd, BadReply, NoReply, NoRoom}
 use Rattle.conversation.specs.declared.conversation.Conversation as code
-use Rattle.started.specs.declared.operation.Operation.{Operation}
+use Rattle.start.specs.declared.operation.Operation.{Operation}
 use Rattle.started.specs.declared.operation.Place.{Place}
 use Rattle.conversation.specs.declared.run.Ran.{Ran}
 
@@ -80,14 +80,11 @@ at-place c e = ap (λ (p : Place). told (c .port) p (c .block)) e
 
 -- a step of a conversation that asks for an action
 module _ (c : Conv) (kind value : ℕ) {a : Action} {k : Reply → Talk Out} (e : c .talk ≡ ask a k) where
-  pub step-waited : {to : Conv} → uses a ≡ 0 → to ≡ gone c a (k (reply.Done 0)) → record { stop = Done; to = to } ≡ stepTalk c kind value
-  step-waited h eto = rw (e, eto) (simp (eq-eqb _ _ h))
+  pub step-refused : refuses a kind ≡ true → record { stop = BadReply; to = c } ≡ stepTalk c kind value
+  step-refused h = rw (e, h)
 
-  pub step-refused : (uses a ≡ 0 → ⊥) → 1 < kind → record { stop = BadReply; to = c } ≡ stepTalk c kind value
-  step-refused h l = rw e (simp (ne-eqb _ _ h, lt-ltb _ _ l))
-
-  pub step-done : {r : Reply} {to : Conv} → (uses a ≡ 0 → ⊥) → kind ≤ 1 → replyOf kind value ≡ r → to ≡ gone c a (k r) → record { stop = Done; to = to } ≡ stepTalk c kind value
-  step-done h l er eto = rw (e, eto, ← er) (simp (ne-eqb _ _ h, le-ltb _ _ l))
+  pub step-done : {r : Reply} {to : Conv} → refuses a kind ≡ false → replyFor a (kind ∷ value ∷ []) ≡ r → to ≡ gone c a (k r) → record { stop = Done; to = to } ≡ stepTalk c kind value
+  step-done h er eto = rw (e, eto, ← er, h)
 
 -- the script's check, from a place on
 

@@ -23,7 +23,7 @@ use Rattle.drive.specs.Moves.{Tape, onTape}
 use Rattle.conversation.specs.Run.{Run, stopped, before, runTalk, joined, after, tapeOf, Shown, shown, left, runOn, runInto, bad, refusedRun, runFrom, runAll}
 use Rattle.conversation.specs.declared.conversation.Stop.{Stop}
 use Rattle.conversation.specs.declared.conversation.Stop.the-variants.{AfterEnd, BadReply, NoRoom, NoReply}
-use Rattle.started.specs.declared.operation.Operation.{Operation}
+use Rattle.start.specs.declared.operation.Operation.{Operation}
 use Rattle.conversation.proofs.Bounds.{short-begun}
 use Rattle.conversation.proofs.Laws.{all-run}
 use Rattle.conversation.proofs.Runs.{

@@ -1,23 +1,24 @@
 -- A conversation: what it says from here on, and its counts
 use Prim.Native.Nat.{ℕ, _+_, _%_, _^_}
-use mathlib.Core.List.{List, [], _++_}
+use mathlib.Core.Bool.{Bool, false}
+use mathlib.Core.List.{List, [], _∷_, _++_}
 use lib.Dec.{eqb, ltb}
 use lib.ListN.{length, drop, replicate}
 use Rattle.hardware.specs.Bound.{waited}
 use Rattle.hardware.specs.Talk.{Talk, ask, end, Res, ok, err, pick}
 use Rattle.hardware.specs.Refusal.{refusal}
 use Rattle.hardware.specs.declared.Action.{Action}
-use Rattle.hardware.specs.declared.Reply.the-variants as reply
 use Rattle.hardware.specs.declared.Port.{Port}
 use Rattle.hardware.specs.declared.Error.the-variants.{Block}
 use Rattle.answers.specs.declared.Value.{Value}
 use Rattle.answers.specs.declared.Value.the-variants as valuev
-use Rattle.drive.specs.Act.{uses, replyOf}
+use Rattle.drive.specs.Act.{uses, replyFor}
 use Rattle.reference.specs.Operations as ops
 use Rattle.watch.specs.declared.store.Left.{Left}
 use Rattle.watch.specs.declared.store.Watch.{Watch}
-use Rattle.started.specs.Operation.{Out, phyOf, deviceOf, opOf, told}
-use Rattle.started.specs.declared.operation.Operation.{Operation}
+use Rattle.start.specs.Operation.{phyOf, deviceOf, opOf}
+use Rattle.started.specs.Operation.{Out, told}
+use Rattle.start.specs.declared.operation.Operation.{Operation}
 use Rattle.conversation.specs.declared.conversation.Conversation as code
 use Rattle.conversation.specs.declared.conversation.Stop.{Stop}
 use Rattle.conversation.specs.declared.conversation.Stop.the-variants as stop
@@ -72,13 +73,16 @@ pub record Step : Type 0 where
 abbrev pub steppedOf : Stepped → Step
 steppedOf s = record { stop = s .stop; to = convOf (s .to) }
 
--- 24 after the end; a wait goes on whatever the reply; else 25 for a kind above 1
+-- a wait takes a reply of any kind, and uses none
+abbrev pub refuses : Action → ℕ → Bool
+refuses a kind = pick (eqb (uses a) 0) false (ltb 1 kind)
+
+-- 24 after the end; 25 for a kind above 1
 abbrev pub stepOn : Talk Out → Conv → ℕ → ℕ → Step
 stepOn (end r) c kind value = record { stop = stop.AfterEnd; to = c }
 stepOn (ask a k) c kind value =
-    pick (eqb (uses a) 0) (record { stop = stop.Done; to = gone c a (k (reply.Done 0)) })
-    (pick (ltb 1 kind) (record { stop = stop.BadReply; to = c })
-    (record { stop = stop.Done; to = gone c a (k (replyOf kind value)) }))
+    pick (refuses a kind) (record { stop = stop.BadReply; to = c })
+    (record { stop = stop.Done; to = gone c a (k (replyFor a (kind ∷ value ∷ []))) })
 
 abbrev pub stepTalk : Conv → ℕ → ℕ → Step
 stepTalk c kind value = stepOn (c .talk) c kind value

@@ -9,20 +9,24 @@ use hardware::Error;
 use hardware::Port;
 use hardware::Reply;
 use hardware::Unit;
+use operations::After;
+use start::operation::Operation;
+use start::start::First;
+use start::start::start;
 use started::operation::Op;
-use started::operation::Operation;
 use started::operation::Place;
-use started::start::start;
 use watch::store::Left;
 use watch::store::Watch;
 ghost use mathlib.Core.Path.{_≡_};
 ghost use Prim.Native.Nat.{_≤_};
-ghost use mathlib.Core.List.{[]};
+ghost use mathlib.Core.List.{[], _∷_};
 ghost use lib.ListN.{length, take};
 ghost use Rattle.hardware.specs.Told.{unitOf};
 ghost use Rattle.hardware.specs.Talk.{end, err};
-ghost use Rattle.conversation.specs.Conversation.{convOf, gone, opening, padded, begun, number, steppedOf, stepTalk, given, handedBack, leftBy, leftOf, ownOf};
-ghost use Rattle.started.specs.Operation.{resumeOp};
+ghost use Rattle.drive.specs.Act.{replyFor};
+ghost use Rattle.conversation.specs.Conversation.{convOf, gone, opening, padded, begun, number, refuses, steppedOf, stepTalk, given, handedBack, leftBy, leftOf, ownOf};
+ghost use Rattle.start.specs.First.{toldFirst};
+ghost use Rattle.started.specs.Operation.{resumeOp, told};
 
 // The whole state of a conversation.
 pub struct Conversation {
@@ -101,6 +105,34 @@ fn give_first(own: &[u32], words: usize, block: &mut [u32]) -> Unit
     give(&own[..words], block)
 }
 
+// The place of an operation's first step.
+fn placed(port: Port, block: &mut [u32; 16], first: First) -> Place
+    ensures { λ r. ⌜ told port r (now (block .exit)) ≡ toldFirst port (now (block .entry)) first ⌝ }
+{
+    match first {
+        First::Access(step) => Op::stepped(port, After::Nothing, block, step),
+        First::After(step) => Op::decided(port, block, step),
+    }
+}
+
+// Whether an action does not take a reply of this kind. A wait takes any.
+fn is_refused(a: Action, kind: u32) -> bool
+    ensures { λ r. ⌜ refuses a kind ≡ r ⌝ }
+{
+    if uses_of(a) == 0 { false } else { kind > 1 }
+}
+
+// What an action is answered with by a reply's two words. A wait uses neither.
+fn reply_to(a: Action, kind: u32, value: u32) -> Reply
+    ensures { λ r. ⌜ replyFor a (kind ∷ value ∷ []) ≡ r ⌝ }
+{
+    if uses_of(a) == 0 {
+        Reply::Done(0)
+    } else {
+        reply_of(kind, value)
+    }
+}
+
 // What a poll that ended well leaves in its Watch; any other answer leaves what was there.
 fn left_by(value: Value, own: Left) -> Left
     ensures { λ r. ⌜ leftBy value own ≡ r ⌝ }
@@ -151,7 +183,8 @@ impl Conversation {
             Unit::Err(e) => Conversation::refused(port, e),
             Unit::Ok => {
                 let mut words = copied(block);
-                let place = start(what, port, &mut words, block.len());
+                let first = start(what, port, &mut words, block.len());
+                let place = placed(port, &mut words, first);
                 Conversation {
                     port,
                     place,
@@ -163,7 +196,7 @@ impl Conversation {
         }
     }
 
-    // The action is answered, and counted. Both `step` and `run` go this way.
+    // The action is answered, and counted.
     pub fn answered(self, a: Action, op: Op, reply: Reply) -> Conversation
         ensures { λ r. ⌜ convOf r ≡ gone (convOf self) a (resumeOp (self .port) op reply (self .block)) ⌝ }
     {
@@ -190,12 +223,7 @@ impl Conversation {
                 to: self,
             },
             Place::Asks(a, op) => {
-                if uses_of(a) == 0 {
-                    Stepped {
-                        stop: Stop::Done,
-                        to: self.answered(a, op, Reply::Done(0)),
-                    }
-                } else if kind > 1 {
+                if is_refused(a, kind) {
                     Stepped {
                         stop: Stop::BadReply,
                         to: self,
@@ -203,7 +231,7 @@ impl Conversation {
                 } else {
                     Stepped {
                         stop: Stop::Done,
-                        to: self.answered(a, op, reply_of(kind, value)),
+                        to: self.answered(a, op, reply_to(a, kind, value)),
                     }
                 }
             }

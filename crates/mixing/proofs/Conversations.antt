@@ -19,9 +19,9 @@ use Rattle.hardware.proofs.Refusal as refused
 use Rattle.reference.specs.Bounds.{blockOf}
 use Rattle.reference.specs.Operations.{Out, operation}
 use Rattle.conversation.specs.Conversation.{Conv, opening, started, stepOn, stepTalk}
-use Rattle.started.specs.Operation.{phyOf, deviceOf, opOf}
-use Rattle.started.specs.declared.operation.Operation.{Operation}
-use Rattle.started.specs.declared.operation.Operation.the-variants as operationv
+use Rattle.start.specs.Operation.{phyOf, deviceOf, opOf}
+use Rattle.start.specs.declared.operation.Operation.{Operation}
+use Rattle.start.specs.declared.operation.Operation.the-variants as operationv
 use Rattle.mixing.specs.Conversations.{
   Asked,
   Real,

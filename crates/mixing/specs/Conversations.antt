@@ -13,8 +13,8 @@ use Rattle.hardware.specs.declared.Reply.{Reply}
 use Rattle.hardware.specs.declared.Reply.the-variants as reply
 use Rattle.reference.specs.Operations.{Out, operation}
 use Rattle.conversation.specs.Conversation.{Conv, opening, begun, stepTalk}
-use Rattle.started.specs.Operation.{phyOf, deviceOf, opOf}
-use Rattle.started.specs.declared.operation.Operation.{Operation}
+use Rattle.start.specs.Operation.{phyOf, deviceOf, opOf}
+use Rattle.start.specs.declared.operation.Operation.{Operation}
 use Rattle.mixing.specs.Mixing.{Mixing, starting, portAt, begunIf}
 use Rattle.mixing.specs.Model.{Side, Chip, World, doAction, doFirmware, free}
 use Rattle.mixing.specs.Operations.{mixable}

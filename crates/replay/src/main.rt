@@ -1,14 +1,14 @@
 // Replays stored cases. Standard input has a `case` line for each and then the tracer's input; the same `case` lines are
 // printed, each with its listing.
-use console::input::Input;
-use console::input::Next;
-use console::input::fetch;
-use console::input::is_case;
 use console::listing::listing;
-use console::output::flush;
-use console::output::print;
-use console::part::part;
 use console::talk::Listed;
+use streams::input::Input;
+use streams::input::Next;
+use streams::input::fetch;
+use streams::input::is_case;
+use streams::output::flush;
+use streams::output::print;
+use streams::part::part;
 
 // A case: its line, then its listing, whose input ends where the next case begins.
 fn replay(

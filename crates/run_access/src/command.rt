@@ -40,7 +40,7 @@ fn single(
 }
 
 // acquire_bits and release_bits as far as they go; of the exchange, one action.
-fn run(
+fn once(
     s: Command,
     a: Action,
     port: Port,
@@ -61,6 +61,41 @@ fn run(
         };
     }
     single(s, a, port, block, h, replies, t)
+}
+
+// As far as it goes.
+fn run(
+    from: Command,
+    first: Action,
+    port: Port,
+    block: &mut [u32],
+    host: Host,
+    replies: &[u32],
+    t: &mut [u32],
+) -> CommandRan
+    ensures { λ r. ⌜ Moves (now (replies .entry)) (toldCommand port (now (block .entry)) (CommandStep.Ask first from)) (tape host (now (t .entry))) (toldCommand port (now (block .exit)) (r .step)) (tape (r .host) (now (t .exit))) ⌝ }
+{
+    let mut s = from;
+    let mut a = first;
+    let mut h = host;
+    loop {
+        let r = once(s, a, port, block, h, replies, t);
+        let next = r.host;
+        let step = r.step;
+        if next.at == h.at {
+            return r;
+        }
+        h = next;
+        match step {
+            CommandStep::Done(_) => {
+                return r;
+            }
+            CommandStep::Ask(b, n) => {
+                a = b;
+                s = n;
+            }
+        }
+    }
 }
 
 // The same of a command of so many words, the first of a longer block.

@@ -8,7 +8,7 @@ use Rattle.answers.specs.declared.MaybeStatus.{MaybeStatus}
 use Rattle.answers.specs.declared.MaybeStatus.the-variants as status
 use Rattle.phy.specs.declared.advertise.MaybeFlag.{MaybeFlag}
 use Rattle.phy.specs.declared.advertise.MaybeFlag.the-variants as maybe
-use Rattle.started.specs.declared.operation.Operation.{Operation}
+use Rattle.start.specs.declared.operation.Operation.{Operation}
 use Rattle.trace.specs.declared.kinds.OperationLine.{OperationLine}
 use Rattle.trace.specs.declared.kinds.OperationLine.the-variants.{Is, Bad}
 

@@ -4,7 +4,7 @@ use mathlib.Core.List.{List, [], _∷_}
 use Rattle.hardware.specs.Talk.{pick}
 use Rattle.text.specs.Same.{same}
 use Rattle.kr.specs.declared.modify.Change.{Change}
-use Rattle.started.specs.declared.operation.Operation.the-variants.{KrRead, KrWrite, KrModify, RestartAn, KrAutoneg, NvmWord, AfterReset}
+use Rattle.start.specs.declared.operation.Operation.the-variants.{KrRead, KrWrite, KrModify, RestartAn, KrAutoneg, NvmWord, AfterReset}
 use Rattle.trace.specs.Kinds.{noMore, withWord, withHalf, withTruth}
 use Rattle.trace.specs.Setups.{setupName}
 use Rattle.trace.specs.declared.kinds.OperationLine.{OperationLine}

@@ -1,10 +1,6 @@
-pub mod Port
 pub mod Kinds
 pub mod Mdio
 pub mod Operation
-pub mod Reply
 pub mod Setups
-pub mod Listing
 pub mod Kr
-pub mod Lines
 pub mod Arguments

@@ -7,8 +7,8 @@ use Rattle.text.specs.Same.{same}
 use Rattle.phy.specs.declared.advertise.Advertised.{Advertised}
 use Rattle.phy.specs.declared.advertise.MaybeFlag.{MaybeFlag}
 use Rattle.phy.specs.declared.modify.Register.{Register}
-use Rattle.started.specs.declared.operation.Operation.{Operation}
-use Rattle.started.specs.declared.operation.Operation.the-variants.{ReadReg, WriteReg, Modify, Probe, Scan, Reset, Abilities, Advertise, AnLink}
+use Rattle.start.specs.declared.operation.Operation.{Operation}
+use Rattle.start.specs.declared.operation.Operation.the-variants.{ReadReg, WriteReg, Modify, Probe, Scan, Reset, Abilities, Advertise, AnLink}
 use Rattle.trace.specs.Kinds.{noMore, withWord, withHalf, withTruth, withMaybe}
 use Rattle.trace.specs.Kr.{krName}
 use Rattle.trace.specs.declared.kinds.OperationLine.{OperationLine}

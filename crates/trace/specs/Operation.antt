@@ -5,8 +5,8 @@ use lib.ListN.{length, take}
 use Rattle.hardware.specs.Talk.{pick}
 use Rattle.text.specs.Same.{same}
 use Rattle.activity.specs.declared.Asked.{Asked}
-use Rattle.started.specs.declared.operation.Operation.{Operation}
-use Rattle.started.specs.declared.operation.Operation.the-variants.{Veto, Link, Acquire, Release, Command, Token, PhyActivity}
+use Rattle.start.specs.declared.operation.Operation.{Operation}
+use Rattle.start.specs.declared.operation.Operation.the-variants.{Veto, Link, Acquire, Release, Command, Token, PhyActivity}
 use Rattle.trace.specs.Arguments.{numbers, allNumbers}
 use Rattle.trace.specs.Kinds.{noMore, withWord, withHalf, withTruth}
 use Rattle.trace.specs.Mdio.{mdioName}

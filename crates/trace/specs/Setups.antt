@@ -8,7 +8,7 @@ use Rattle.answers.specs.declared.Internal.{Internal}
 use Rattle.answers.specs.declared.Internal.the-variants.{Ixfi, Kr}
 use Rattle.answers.specs.declared.MaybeStatus.{MaybeStatus}
 use Rattle.watch.specs.declared.store.Watch.{Watch}
-use Rattle.started.specs.declared.operation.Operation.the-variants.{Bringup, Poll}
+use Rattle.start.specs.declared.operation.Operation.the-variants.{Bringup, Poll}
 use Rattle.trace.specs.Kinds.{noMore, withWord, withTruth, withStatus}
 use Rattle.trace.specs.declared.kinds.OperationLine.{OperationLine}
 use Rattle.trace.specs.declared.kinds.OperationLine.the-variants.{Bad}

@@ -1,5 +1,5 @@
 // What an operation line says, and what the reading of each operation needs.
-use started::operation::Operation;
+use start::operation::Operation;
 use text::is;
 ghost use mathlib.Core.Path.{_≡_};
 ghost use Rattle.text.specs.Same.{same};

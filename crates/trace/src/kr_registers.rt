@@ -4,7 +4,7 @@ use crate::kinds::is_name;
 use crate::kinds::no_more;
 use crate::setups::setup_named;
 use kr::modify::Change;
-use started::operation::Operation;
+use start::operation::Operation;
 ghost use mathlib.Core.Path.{_≡_};
 ghost use Rattle.trace.specs.Kr.{withKrRead, withKrWrite, withKrModify, withKrAutoneg, withNvmWord, restName, krName};
 

@@ -1,11 +1,7 @@
-// The tracer's lines: what is read, and what is printed.
+// The line that names an operation and its arguments.
 pub mod arguments;
 pub mod kinds;
 pub mod kr_registers;
-pub mod lines;
-pub mod listing;
 pub mod operation;
-pub mod port;
 pub mod registers;
-pub mod reply;
 pub mod setups;

@@ -7,10 +7,10 @@ use answers::Speeds;
 use phy::advertise::Advertised;
 use phy::advertise::MaybeFlag;
 use phy::modify::Register;
-use started::operation::Operation;
+use start::operation::Operation;
 ghost use mathlib.Core.Path.{_≡_};
 ghost use lib.ListN.{length};
-ghost use Rattle.started.specs.declared.operation.Operation.the-variants as operation;
+ghost use Rattle.start.specs.declared.operation.Operation.the-variants as operation;
 ghost use Rattle.trace.specs.Mdio.{withReadReg, withWriteReg, withModify, withPhy, withReset, withAdvertise, phyName, mdioName};
 
 fn read_reg(args: &[u32]) -> OperationLine

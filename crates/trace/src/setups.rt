@@ -3,7 +3,7 @@ use crate::kinds::OperationLine;
 use crate::kinds::is_name;
 use answers::Internal;
 use answers::MaybeStatus;
-use started::operation::Operation;
+use start::operation::Operation;
 use watch::store::Watch;
 ghost use mathlib.Core.Path.{_≡_};
 ghost use lib.ListN.{length};

@@ -1,7 +1,7 @@
 // Reads a port, an operation and its replies from standard input, and prints the conversation's listing.
-use console::input::Input;
 use console::listing::listing;
-use console::output::flush;
+use streams::input::Input;
+use streams::output::flush;
 
 // The argument `left` asks for one line more.
 fn asks_for_left() -> bool {

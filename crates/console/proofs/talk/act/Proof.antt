@@ -2,7 +2,7 @@ use mathlib.Core.Path.{sym, _∙_}
 use borrow.Author.Needs.{needs}
 use Prim.Native.Nat.{ℕ}
 use lib.ListN.{length-replicate}
-use Rattle.trace.proofs.ListingLaws.{added-length}
+use Rattle.lines.proofs.ListingLaws.{added-length}
 use Rattle.console.proofs.talk.act.Statement.{statement}
 use Rattle.console.proofs.talk.act.Tie as tie
 

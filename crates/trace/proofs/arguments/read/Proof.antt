@@ -10,7 +10,7 @@ use lib.Seq.{sets}
 use Rattle.text.specs.Words.{words, found}
 use Rattle.trace.specs.Arguments.{numbers, argumentsOf}
 use Rattle.trace.proofs.ArgumentLaws.{argumentsFrom, none-left, no-number, no-value, one-read, one-kept}
-use Rattle.trace.proofs.Laws.{found-hex, place}
+use Rattle.lines.proofs.Laws.{found-hex, place}
 use Rattle.trace.proofs.arguments.read.Statement.{statement}
 use Rattle.trace.proofs.arguments.read.Tie as tie
 

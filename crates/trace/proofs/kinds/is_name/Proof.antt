@@ -1,5 +1,5 @@
 use borrow.Author.Needs.{needs}
-use Rattle.trace.proofs.Laws.{whole-is}
+use Rattle.lines.proofs.Laws.{whole-is}
 use Rattle.trace.proofs.kinds.is_name.Statement.{statement}
 use Rattle.trace.proofs.kinds.is_name.Tie as tie
 

@@ -3,7 +3,7 @@ use native.Mathlib.Omega.{arith}
 use borrow.Author.Needs.{needs}
 use Rattle.text.specs.Words.{found}
 use Rattle.text.proofs.PartLaws.{part-slice}
-use Rattle.trace.proofs.Laws.{place}
+use Rattle.lines.proofs.Laws.{place}
 use Rattle.trace.proofs.OperationLaws.{kept, not-read, are-read}
 use Rattle.trace.proofs.operation.operation_line.Statement.{statement}
 use Rattle.trace.proofs.operation.operation_line.Tie as tie

@@ -30,19 +30,23 @@ copied-requires c κs = taken _ _ _ _ (c .before .before .refusal .ensures ∙ a
 start-requires : tie.Need-start-requires
 start-requires c κs = search needs
 
+placed-requires : tie.Need-placed-requires
+placed-requires c κs = search needs
+
 returns : tie.Need-returns
 returns c = simp (c .before .before .before .before .before .before .phy .ensures, c .before .before .before .before .before .device .ensures, c .before .before .before .before .refusal .ensures, c .before .before .e .given .1, c .refused .ensures)
 
 returns-2 : tie.Need-returns-2
 returns-2 c =
-    let start = c .before .before .before .before .before .before .before .before .before in
-    let refused = c .before .before .before .before .before in
-    not-refused (start .args .port) (start .args .what) (start .args .block .now) (c .before .before .copied .result)
+    let first = c .before .before in
+    let start = first .before .before .before .before .before .before .before .before .before in
+    let refused = first .before .before .before .before .before in
+    not-refused (start .args .port) (start .args .what) (start .args .block .now) (first .before .before .copied .result)
     (refused .before .before .phy .ensures)
     (refused .before .device .ensures)
-    (refused .refusal .ensures ∙ ap unitOf (c .before .before .before .enum-told .given .1))
-    (c .before .before .copied .ensures)
-    (c .start .ensures)
+    (refused .refusal .ensures ∙ ap unitOf (first .before .before .before .enum-told .given .1))
+    (first .before .before .copied .ensures)
+    (c .placed .ensures ∙ first .start .ensures)
 
 pub begin-spec : {M : Type 1} → statement M
 begin-spec =
@@ -56,5 +60,6 @@ begin-spec =
     enum-told
     copied-requires
     start-requires
+    placed-requires
     returns
     returns-2)
