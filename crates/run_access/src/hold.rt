@@ -39,7 +39,7 @@ fn single(
     }
 }
 
-// acquire_bits and release_bits as far as they go, those of the token's command too; of anything else, one action.
+// acquire_bits, release_bits and the token's command as far as they go; of anything else, one action.
 pub fn run(
     s: Hold,
     a: Action,

@@ -1,2 +1,2 @@
-// An operation that was begun: what can be begun, its first place, and its next one from a reply.
+// An operation that was begun: its next place from a reply, and as far as it goes over a script.
 pub mod operation;
