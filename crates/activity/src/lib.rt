@@ -1,4 +1,6 @@
 // hostif.rs's `phy_activity`: commands of six words, one a try. It is suspended at a job, not at an action.
+#![tactic(auto)]
+
 ghost use Rattle.std.specs.Prelude.{◌≤◌, ◌≡◌, get_or, length, take};
 ghost use Rattle.hardware.specs.Told.{word_of};
 ghost use Rattle.reference.specs.Hostif.{activity_times, activity_words};

@@ -13,7 +13,7 @@ use words::link::{Link, Megabits};
 use words::phy::PhyId;
 
 // Up to twelve words; those from `len` on mean nothing.
-#[derive(Drop)]
+#[derive(Clone, Copy)]
 pub struct Fields {
     pub words: [u32; 12],
     pub len: usize,
@@ -30,6 +30,7 @@ impl Fields {
     }
 
     // No answer comes to a thirteenth word, which would be left out.
+    #[tactic(auto, using(crate::proofs::Laws::room, crate::proofs::Laws::full))]
     fn word(self, w: u32) -> Fields
         ensures { shown result ≡ added self (w ∷ []) }
     {
@@ -58,6 +59,7 @@ impl Fields {
         }
     }
 
+    #[tactic(auto, using(crate::proofs::Laws::added_more))]
     fn megabits(self, m: Megabits) -> Fields
         ensures { shown result ≡ added self (megabits m) }
     {
@@ -67,6 +69,7 @@ impl Fields {
         }
     }
 
+    #[tactic(auto, using(crate::proofs::Laws::added_more))]
     fn maybe_word(self, m: MaybeWord) -> Fields
         ensures { shown result ≡ added self (maybe_word m) }
     {
@@ -76,6 +79,7 @@ impl Fields {
         }
     }
 
+    #[tactic(auto, using(crate::proofs::Laws::added_more))]
     fn maybe_status(self, m: MaybeStatus) -> Fields
         ensures { shown result ≡ added self (maybe_status m) }
     {
@@ -85,6 +89,7 @@ impl Fields {
         }
     }
 
+    #[tactic(auto, using(crate::proofs::Laws::added_more))]
     fn phy_id(self, p: PhyId) -> Fields
         ensures { shown result ≡ added self (phy_id p) }
     {
@@ -94,6 +99,7 @@ impl Fields {
         }
     }
 
+    #[tactic(auto, using(crate::proofs::Laws::added_more))]
     fn scanned(self, s: Scanned) -> Fields
         ensures { shown result ≡ added self (scanned s) }
     {
@@ -103,6 +109,7 @@ impl Fields {
         }
     }
 
+    #[tactic(auto, using(crate::proofs::Laws::added_more))]
     fn link(self, l: Link) -> Fields
         ensures { shown result ≡ added self (link l) }
     {
@@ -112,18 +119,21 @@ impl Fields {
         }
     }
 
+    #[tactic(auto, using(crate::proofs::Laws::added_more))]
     fn speeds(self, s: Speeds) -> Fields
         ensures { shown result ≡ added self (speeds s) }
     {
         self.flag(s.g10).flag(s.g1).flag(s.m100)
     }
 
+    #[tactic(auto, using(crate::proofs::Laws::added_more))]
     fn activity(self, w: Words) -> Fields
         ensures { shown result ≡ added self (activity w) }
     {
         self.word(w.w0).word(w.w1).word(w.w2).word(w.w3)
     }
 
+    #[tactic(auto, using(crate::proofs::Laws::added_more))]
     fn copper(self, c: Copper) -> Fields
         ensures { shown result ≡ added self (copper c) }
     {
@@ -134,6 +144,7 @@ impl Fields {
         }
     }
 
+    #[tactic(auto, using(crate::proofs::Laws::added_more))]
     fn x557(self, p: X557) -> Fields
         ensures { shown result ≡ added self (x557 p) }
     {
@@ -142,6 +153,7 @@ impl Fields {
         phy.flag(p.unstalled).flag(p.reset).internal(internal)
     }
 
+    #[tactic(auto, using(crate::proofs::Laws::added_more))]
     fn copper_setup(self, s: CopperSetup) -> Fields
         ensures { shown result ≡ added self (copper_setup s) }
     {
@@ -150,6 +162,7 @@ impl Fields {
         self.x557(x557).speeds(advertised).flag(s.restarted)
     }
 
+    #[tactic(auto, using(crate::proofs::Laws::added_more))]
     fn setup552(self, s: Setup552) -> Fields
         ensures { shown result ≡ added self (setup552 s) }
     {
@@ -163,12 +176,14 @@ impl Fields {
         }
     }
 
+    #[tactic(auto, using(crate::proofs::Laws::added_more))]
     fn sgmii(self, s: SgmiiSetup) -> Fields
         ensures { shown result ≡ added self (sgmii s) }
     {
         self.word(s.link_ctrl).word(s.sgmii).word(s.flx)
     }
 
+    #[tactic(auto, using(crate::proofs::Laws::added_more))]
     fn firmware(self, s: FirmwareSetup) -> Fields
         ensures { shown result ≡ added self (firmware s) }
     {
@@ -180,6 +195,7 @@ impl Fields {
             .flag(s.overtemp)
     }
 
+    #[tactic(auto, using(crate::proofs::Laws::added_more))]
     fn setup553(self, s: Setup553) -> Fields
         ensures { shown result ≡ added self (setup553 s) }
     {
@@ -193,6 +209,7 @@ impl Fields {
         }
     }
 
+    #[tactic(auto, using(crate::proofs::Laws::added_more, crate::proofs::Laws::none_more))]
     fn value(self, v: Value) -> Fields
         ensures { shown result ≡ added self (value v) }
     {
@@ -216,6 +233,7 @@ impl Fields {
         }
     }
 
+    #[tactic(auto, using(crate::proofs::Laws::added_more, crate::proofs::Laws::none_more))]
     fn error(self, e: Error) -> Fields
         ensures { shown result ≡ added self (values e) }
     {
@@ -244,6 +262,7 @@ impl Fields {
 
 impl Fields {
     // How many words it shows.
+    #[tactic(auto, using(crate::proofs::Laws::counted, crate::proofs::Laws::counted_full))]
     pub fn count(self) -> usize
         ensures { length (shown self) ≡ result }
     {
@@ -251,6 +270,7 @@ impl Fields {
     }
 
     // The word at place `i`, 0 past the last.
+    #[tactic(auto, using(crate::proofs::Laws::behind, crate::proofs::Laws::behind_all))]
     pub fn at(self, i: usize) -> u32
         ensures { get_or (shown self) i 0 ≡ result }
     {
@@ -264,6 +284,7 @@ impl Fields {
 }
 
 // A command's words of the host block come behind these.
+#[tactic(auto, using(crate::proofs::Fits::value_fits))]
 pub fn fields_of(v: Value) -> Fields
     ensures { shown result ≡ value v }
 {
@@ -294,6 +315,7 @@ pub fn block_words(v: Value) -> u32
     }
 }
 
+#[tactic(auto, using(crate::proofs::Fits::values_fit))]
 pub fn error_fields(e: Error) -> Fields
     ensures { shown result ≡ values e }
 {

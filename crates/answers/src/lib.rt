@@ -1,4 +1,6 @@
 // What the operations answer, and an answer's words in a listing.
+#![tactic(auto)]
+
 pub mod fields;
 
 use hardware::Error;
@@ -6,7 +8,7 @@ use words::link::Link;
 use words::phy::PhyId;
 
 // A set of link speeds: mdio.rs's Speeds.
-#[derive(Drop)]
+#[derive(Clone, Copy)]
 pub struct Speeds {
     pub g10: bool,
     pub g1: bool,
@@ -14,35 +16,35 @@ pub struct Speeds {
 }
 
 // Which internal link the board straps: x552.rs's Internal.
-#[derive(Drop)]
+#[derive(Clone, Copy)]
 pub enum Internal {
     Ixfi,
     Kr,
 }
 
 // Option<u32>
-#[derive(Drop)]
+#[derive(Clone, Copy)]
 pub enum MaybeWord {
     Nothing,
     Is(u32),
 }
 
 // Option<u16>
-#[derive(Drop)]
+#[derive(Clone, Copy)]
 pub enum MaybeStatus {
     Nothing,
     Is(u16),
 }
 
 // Option<(u8, u32)>: where `scan` found a PHY, and its identifier.
-#[derive(Drop)]
+#[derive(Clone, Copy)]
 pub enum Scanned {
     Nothing,
     At(u8, u32),
 }
 
 // The four words of phy_activity.
-#[derive(Drop)]
+#[derive(Clone, Copy)]
 pub struct Words {
     pub w0: u32,
     pub w1: u32,
@@ -51,7 +53,7 @@ pub struct Words {
 }
 
 // x552.rs's Copper: what a poll saw.
-#[derive(Drop)]
+#[derive(Clone, Copy)]
 pub enum Copper {
     Down,
     Up { megabits: u32 },
@@ -59,7 +61,7 @@ pub enum Copper {
 }
 
 // Prepared::Copper of x552.rs.
-#[derive(Drop)]
+#[derive(Clone, Copy)]
 pub struct X557 {
     pub phy: u8,
     pub id: u32,
@@ -70,7 +72,7 @@ pub struct X557 {
 }
 
 // Setup::Copper of x552.rs.
-#[derive(Drop)]
+#[derive(Clone, Copy)]
 pub struct CopperSetup {
     pub x557: X557,
     pub advertised: Speeds,
@@ -78,7 +80,7 @@ pub struct CopperSetup {
 }
 
 // x552.rs's Setup. Sfp, at place 5, is fiber and does not occur.
-#[derive(Drop)]
+#[derive(Clone, Copy)]
 pub enum Setup552 {
     Kx4,
     Xfi,
@@ -89,7 +91,7 @@ pub enum Setup552 {
 }
 
 // Setup::Sgmii of x553.rs.
-#[derive(Drop)]
+#[derive(Clone, Copy)]
 pub struct SgmiiSetup {
     pub link_ctrl: u32,
     pub sgmii: u32,
@@ -97,14 +99,14 @@ pub struct SgmiiSetup {
 }
 
 // GET_PHY_INFO's answer.
-#[derive(Drop)]
+#[derive(Clone, Copy)]
 pub struct FirmwarePhy {
     pub id: u32,
     pub speeds: u16,
 }
 
 // Setup::Firmware of x553.rs.
-#[derive(Drop)]
+#[derive(Clone, Copy)]
 pub struct FirmwareSetup {
     pub phy: FirmwarePhy,
     pub internal: MaybeWord,
@@ -112,7 +114,7 @@ pub struct FirmwareSetup {
 }
 
 // x553.rs's Setup. Sfp, at place 4, is fiber and does not occur.
-#[derive(Drop)]
+#[derive(Clone, Copy)]
 pub enum Setup553 {
     Kr { link_ctrl: u32 },
     Kr2500 { sel: u32 },
@@ -123,7 +125,7 @@ pub enum Setup553 {
 }
 
 // A good answer of any operation.
-#[derive(Drop)]
+#[derive(Clone, Copy)]
 pub enum Value {
     // acquire, release, write_reg, reset, kr_write, after_reset
     Nothing,
@@ -152,7 +154,7 @@ pub enum Value {
 }
 
 // What an operation ends with.
-#[derive(Drop)]
+#[derive(Clone, Copy)]
 pub enum Answer {
     Ok(Value),
     Err(Error),

@@ -1,5 +1,7 @@
 // The part as C calls it (c/mansruoy.h). The caller holds a conversation as words, hands it in and gets it back by value; nothing
 // is kept here. No enum crosses.
+#![tactic(auto)]
+
 pub mod held;
 pub mod p_started;
 pub mod port;

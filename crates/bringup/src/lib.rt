@@ -1,4 +1,6 @@
 // `bringup`: the family's prepare, then its setup on the result. It is suspended at a job.
+#![tactic(auto)]
+
 ghost use Rattle.std.specs.Prelude.{ℕ, List, ◌≡◌, take};
 ghost use Rattle.hardware.specs.Told.{word_of};
 ghost use Rattle.hardware.specs.declared.Family.TheVariants.{X552, X553};

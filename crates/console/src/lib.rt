@@ -1,4 +1,6 @@
 // A conversation over standard input and standard output: its lines are read, and its listing is printed.
+#![tactic(auto)]
+
 pub mod ahead;
 pub mod ending;
 pub mod listing;

@@ -1,4 +1,6 @@
 // A script and a transcript as far as they are used, and one action done on them.
+#![tactic(auto)]
+
 ghost use Rattle.std.specs.Prelude.{◌≡◌, ◌+◌, ◌≤◌, length, drop};
 ghost use Rattle.std.proofs.lemmas.List.Edits.{sets};
 ghost use Rattle.hardware.specs.Bound.{waited};
@@ -8,7 +10,7 @@ ghost use Rattle.drive.specs.Moves.{tape, Acts};
 use hardware::{Action, Reply};
 use script::{Pair, read_pair};
 
-#[derive(Drop)]
+#[derive(Clone, Copy)]
 pub struct Host {
     pub used: usize,
     pub at: usize,
@@ -17,7 +19,7 @@ pub struct Host {
 }
 
 // Short: no room, or no reply
-#[derive(Drop)]
+#[derive(Clone, Copy)]
 pub enum Acted {
     Is(Host, Reply),
     Short,
@@ -95,6 +97,7 @@ pub fn write_down(t: &mut [u32], at: usize, a: Action)
 }
 
 // What an action is answered at a place of the script.
+#[tactic(auto, using(script::proofs::Laws::are, script::proofs::Laws::has_none, crate::proofs::Laws::uses_two))]
 pub fn reply_at(a: Action, replies: &[u32], used: usize) -> Reply
     requires { used + uses a ≤ length replies.now }
     ensures { reply_for a (drop used replies.now) ≡ result }
@@ -109,6 +112,7 @@ pub fn reply_at(a: Action, replies: &[u32], used: usize) -> Reply
     }
 }
 
+#[tactic(auto, using(crate::proofs::Laws::put_down))]
 pub fn act(h: Host, a: Action, replies: &[u32], t: &mut [u32]) -> Acted
     ensures { Acts a replies.now (tape h t.old) result t.new }
 {

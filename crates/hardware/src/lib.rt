@@ -1,5 +1,7 @@
 // hardware.rs: what is the same for every operation. A port, the actions that the host is asked for and its replies, the
 // errors, and what a Rust function of type R<()> or R<u32> gives back.
+#![tactic(auto)]
+
 ghost use Rattle.std.specs.Prelude.{◌≡◌};
 ghost use Rattle.hardware.specs.Talk.{checked, raw, done};
 ghost use Rattle.hardware.specs.Refusal.{is_fiber, refusal};
@@ -7,14 +9,14 @@ ghost use Rattle.hardware.specs.Regs.{regs};
 ghost use Rattle.hardware.specs.Told.{unit_of, word_of};
 
 // The two families of document 01.
-#[derive(Drop)]
+#[derive(Clone, Copy)]
 pub enum Family {
     X552,
     X553,
 }
 
 // A lan above 1 is refused by `begin` and not cut off here, so it has room for more.
-#[derive(Drop)]
+#[derive(Clone, Copy)]
 pub struct Port {
     pub family: Family,
     pub device: u16,
@@ -22,7 +24,7 @@ pub struct Port {
 }
 
 // What the host is asked for: read a register, write a value to one, or wait some microseconds.
-#[derive(Drop)]
+#[derive(Clone, Copy)]
 pub enum Action {
     Read(u32),
     Write(u32, u32),
@@ -30,7 +32,7 @@ pub enum Action {
 }
 
 // What the host hands back: the value read, or the failure's code.
-#[derive(Drop)]
+#[derive(Clone, Copy)]
 pub enum Reply {
     Done(u32),
     Failed(u32),
@@ -38,7 +40,7 @@ pub enum Reply {
 
 // Every cause that ends a conversation with an error: 1 to 9 of document 01's table, which the Rust has, and 20 to 23,
 // which `begin` adds. specs/Numbers.antt gives each one its number and values.
-#[derive(Drop)]
+#[derive(Clone, Copy)]
 pub enum Error {
     Io(u32),
     Removed,
@@ -71,21 +73,21 @@ pub enum Error {
 }
 
 // sync.rs's `regs`: SWSM and SW_FW_SYNC of a family.
-#[derive(Drop)]
+#[derive(Clone, Copy)]
 pub struct Regs {
     pub swsm: u32,
     pub sync: u32,
 }
 
 // R<()>
-#[derive(Drop)]
+#[derive(Clone, Copy)]
 pub enum Unit {
     Ok,
     Err(Error),
 }
 
 // R<u32>
-#[derive(Drop)]
+#[derive(Clone, Copy)]
 pub enum Word {
     Ok(u32),
     Err(Error),
@@ -141,6 +143,7 @@ impl Port {
 
     // What `begin` turns away, in document 01's order: the port, then the operation's PHY and MDIO device address (0 where
     // it has none), then the number of words in the host block.
+    #[tactic(auto, unfolding(crate::specs::Refusal::refusal))]
     pub fn refusal(self, phy: u32, device: u32, words: usize) -> Unit
         ensures { refusal self phy device words ≡ unit_of result }
     {

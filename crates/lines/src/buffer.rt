@@ -5,7 +5,7 @@ ghost use Rattle.lines.specs.Buffer.{look_at, rest_at, moved};
 use text::{Found, line_end, line_length};
 
 // What is in the buffer from a place on.
-#[derive(Drop)]
+#[derive(Clone, Copy)]
 pub enum Seen {
     // A line from `start` up to `end`, without its newline and the carriage return before that; the next one starts at `next`.
     Line {

@@ -6,7 +6,7 @@ ghost use Rattle.lines.specs.Port.{lan_of, device_of, family_of, port_of};
 use hardware::{Family, Port};
 use text::{Number, Span, hex, is, word};
 
-#[derive(Drop)]
+#[derive(Clone, Copy)]
 pub enum PortLine {
     Is(Port),
     Bad,

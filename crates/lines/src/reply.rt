@@ -6,7 +6,7 @@ ghost use Rattle.lines.specs.Reply.{value_of, reply_of};
 use text::{Number, Span, hex, is, word};
 
 // A reply's two words, as `run` takes them.
-#[derive(Drop)]
+#[derive(Clone, Copy)]
 pub enum ReplyLine {
     Is { kind: u32, value: u32 },
     Bad,

@@ -1,4 +1,6 @@
 // What an operation does between its accesses.
+#![tactic(auto)]
+
 pub mod kr_registers;
 pub mod registers;
 

@@ -1,4 +1,6 @@
 // The states of an access as words, and back: for a caller that cannot hold an enum.
+#![tactic(auto)]
+
 pub mod p_access;
 pub mod p_hardware;
 pub mod p_hostif;

@@ -1,4 +1,6 @@
 // The states of a bringup, and of what it is made of, as words, and back.
+#![tactic(auto)]
+
 pub mod p_activity;
 pub mod p_bringup;
 pub mod p_kr;

@@ -1,5 +1,7 @@
 // Replays stored cases. Standard input has a `case` line for each and then the tracer's input; the same `case` lines are
 // printed, each with its listing.
+#![tactic(auto)]
+
 use console::listing::listing;
 use console::talk::Listed;
 use streams::input::{Input, Next, fetch, is_case};

@@ -1,4 +1,6 @@
 // What is done under a lock, over a script: as many actions in one call as there are replies and room for.
+#![tactic(auto)]
+
 pub mod body;
 pub mod command;
 pub mod hold;

@@ -1,23 +1,26 @@
 // The script of a driver's conversation: the replies, two words each, the kind and then the value.
+#![tactic(auto)]
+
 ghost use Rattle.std.specs.Prelude.{◌≡◌};
 ghost use Rattle.script.specs.Script.{pair_at};
 
 // The lent words, and the place of the next reply. The borrow checker covers no function over a struct that holds a
 // reference: `new`, `next` and `read_pair` are proved by hand, so what there is to do is left to `pair_at`.
-#[derive(Drop)]
+#[derive(Clone, Copy)]
 pub struct Reader<'a> {
     pub replies: &'a [u32],
     pub at: usize,
 }
 
 // A reply's two words, or that fewer than two are left.
-#[derive(Drop)]
+#[derive(Clone, Copy)]
 pub enum Pair {
     Is(u32, u32),
     Nothing,
 }
 
 // The place can be any number, so nothing is added to it before it is known to be in the script.
+#[tactic(auto, unfolding(crate::specs::Script::pair_at))]
 fn pair_at(replies: &[u32], at: usize) -> Pair
     ensures { pair_at replies.now at ≡ result }
 {

@@ -1,4 +1,6 @@
 // x552.rs, tier 1: what kr_read, kr_write and nvm_word do while they hold their bits.
+#![tactic(auto)]
+
 pub mod idle;
 pub mod kr;
 pub mod nvm;

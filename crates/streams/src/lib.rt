@@ -1,4 +1,6 @@
 // Standard input and standard output, a line at a time.
+#![tactic(auto)]
+
 pub mod batch;
 pub mod due;
 pub mod ending;

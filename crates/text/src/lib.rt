@@ -1,4 +1,6 @@
 // Lines of text as slices of bytes: where a line ends, its words, hexadecimal words, and numbers written as text.
+#![tactic(auto)]
+
 ghost use Rattle.std.specs.Prelude.{◌≤◌, ◌<◌, ◌≡◌, false, length, drop, get_or};
 ghost use Rattle.text.specs.Lines.{line_end, bare, Ahead};
 ghost use Rattle.text.specs.Words.{is_blank, words, found, Inside, StartsAt, EndsAt};
@@ -8,28 +10,28 @@ ghost use Rattle.text.specs.Digits.{glyph as Digits·glyph, hex_digits, decimal_
 ghost use Rattle.text.specs.Written.{written};
 
 // A place in a text, where there is one.
-#[derive(Drop)]
+#[derive(Clone, Copy)]
 pub enum Found {
     At(usize),
     Nothing,
 }
 
 // A word of a line: where it starts, and where it ends.
-#[derive(Drop)]
+#[derive(Clone, Copy)]
 pub enum Span {
     Word(usize, usize),
     Nothing,
 }
 
 // A word that is a number, or is none.
-#[derive(Drop)]
+#[derive(Clone, Copy)]
 pub enum Number {
     Is(u32),
     Nothing,
 }
 
 // The place behind what was written, or that it did not fit.
-#[derive(Drop)]
+#[derive(Clone, Copy)]
 pub enum Written {
     To(usize),
     Full,

@@ -1,4 +1,6 @@
 // The line that names an operation and its arguments.
+#![tactic(auto)]
+
 pub mod arguments;
 pub mod kinds;
 pub mod kr_registers;

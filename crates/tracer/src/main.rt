@@ -1,4 +1,6 @@
 // Reads a port, an operation and its replies from standard input, and prints the conversation's listing.
+#![tactic(auto)]
+
 use console::listing::listing;
 use streams::input::Input;
 use streams::output::flush;

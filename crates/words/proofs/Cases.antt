@@ -37,6 +37,7 @@ same_equal (x ∷ xs) (y ∷ ys) t =
     ap₂ ◌∷◌ (eqb→eq x y (left (eqb x y) (same xs ys) t)) (same_equal xs ys (right (eqb x y) (same xs ys) t))
 
 each : (cs : List Case) → T (all_same cs) → (c : Case) → Memᴰ c cs → c.computed ≡ c.expected
+each [] t c m = elim m [ ]
 each (d ∷ cs) t c (Memᴰ.head e) =
     ap (λ x. x.computed) e ∙ same_equal d.computed d.expected (left (same d.computed d.expected) (all_same cs) t)
     ∙ sym (ap (λ x. x.expected) e)

@@ -12,6 +12,7 @@ pub fn flex_mng(i: usize) -> u32
     std::num::wrapping_add_u32(FLEX_MNG, 4 * low)
 }
 
+#[tactic(auto, unfolding(crate::specs::Hostif::swap_bytes))]
 pub fn swap_bytes(word: u32) -> u32
     ensures { swap_bytes word ≡ result }
 {
@@ -22,6 +23,7 @@ pub fn swap_bytes(word: u32) -> u32
 }
 
 // Where `nvm_word` finds a word.
+#[tactic(auto, unfolding(crate::specs::Hostif::nvm_address))]
 pub fn nvm_address(word: u16) -> u32
     ensures { nvm_address word ≡ result }
 {
@@ -29,6 +31,7 @@ pub fn nvm_address(word: u16) -> u32
 }
 
 // The words that a reply of len bytes takes behind its header.
+#[tactic(auto, unfolding(crate::specs::Hostif::reply_words))]
 pub fn reply_words(len: u32) -> usize
     ensures { reply_words len ≡ result }
 {
@@ -36,6 +39,7 @@ pub fn reply_words(len: u32) -> usize
 }
 
 // Does a reply of len bytes fit a block of so many words?
+#[tactic(auto, using(crate::proofs::Theorems::Hostif::fits_words))]
 pub fn fits(len: u32, words: usize) -> bool
     ensures { fits len words ≡ result }
 {

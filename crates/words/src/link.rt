@@ -4,13 +4,13 @@ ghost use Rattle.words.specs.Link.{link_of, copper};
 
 use hardware::Family;
 
-#[derive(Drop)]
+#[derive(Clone, Copy)]
 pub enum Megabits {
     Nothing,
     Is(u32),
 }
 
-#[derive(Drop)]
+#[derive(Clone, Copy)]
 pub enum Link {
     Down,
     Up { megabits: Megabits },
@@ -22,6 +22,7 @@ impl Link {
     // With bits 29:28 both set: 2500 megabits, not 10000.
     pub const NON_STD: u32 = 0x0800_0000;
 
+    #[tactic(auto, using(crate::proofs::Bits::is_clear_lem, crate::proofs::Bits::is_set, crate::proofs::Theorems::Link::speed_rust), unfolding(crate::specs::Link::link_of))]
     pub fn of(family: Family, links: u32) -> Link
         ensures { link_of family links ≡ result }
     {
@@ -48,6 +49,7 @@ impl Link {
 }
 
 // The copper side's speed. `Nothing` is the Rust's `Invalid`.
+#[tactic(auto, using(crate::proofs::Theorems::Link::status_rust), unfolding(crate::specs::Link::copper))]
 pub fn copper(status: u32) -> Megabits
     ensures { copper status ≡ result }
 {

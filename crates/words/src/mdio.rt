@@ -3,7 +3,7 @@ ghost use Rattle.std.specs.Prelude.{◌≡◌};
 ghost use Rattle.words.specs.Mdio.{command, fields, address, address_cycle, read_cycle, write_cycle};
 
 // The fields of a command. What is too wide for its field is cut.
-#[derive(Drop)]
+#[derive(Clone, Copy)]
 pub struct Command {
     pub register: u16,
     pub device: u8,
@@ -31,6 +31,7 @@ impl Command {
         if self.go { word | Command::GO } else { word }
     }
 
+    #[tactic(auto, using(crate::proofs::Bits::bit_digit), unfolding(crate::specs::Mdio::fields))]
     pub fn of(word: u32) -> Command
         ensures { fields word ≡ result }
     {
@@ -45,24 +46,28 @@ impl Command {
 }
 
 // mdio.rs `address`. The document's word for a PHY and a device below 32, which is all that `begin` lets through.
+#[tactic(auto, unfolding(crate::specs::Mdio::address))]
 pub fn address(phy: u32, dev: u32, reg: u16) -> u32
     ensures { address phy dev reg ≡ result }
 {
     reg as u32 | dev << 16 | phy << 21
 }
 
+#[tactic(auto, unfolding(crate::specs::Mdio::address_cycle))]
 pub fn address_cycle(phy: u32, dev: u32, reg: u16) -> u32
     ensures { address_cycle phy dev reg ≡ result }
 {
     address(phy, dev, reg) | Command::GO
 }
 
+#[tactic(auto, unfolding(crate::specs::Mdio::read_cycle))]
 pub fn read_cycle(phy: u32, dev: u32, reg: u16) -> u32
     ensures { read_cycle phy dev reg ≡ result }
 {
     address(phy, dev, reg) | Command::OP_READ | Command::GO
 }
 
+#[tactic(auto, unfolding(crate::specs::Mdio::write_cycle))]
 pub fn write_cycle(phy: u32, dev: u32, reg: u16) -> u32
     ensures { write_cycle phy dev reg ≡ result }
 {

@@ -2,13 +2,14 @@
 ghost use Rattle.std.specs.Prelude.{◌≡◌};
 ghost use Rattle.words.specs.Phy.{phy_id};
 
-#[derive(Drop)]
+#[derive(Clone, Copy)]
 pub enum PhyId {
     Nothing,
     Id(u32),
 }
 
 // What `probe` makes of registers 2 and 3, each in the low half of a word.
+#[tactic(auto, using(crate::proofs::Theorems::Phy::identifier_rust), unfolding(crate::specs::Phy::phy_id))]
 pub fn phy_id(high: u32, low: u32) -> PhyId
     ensures { phy_id high low ≡ result }
 {

@@ -3,7 +3,7 @@ ghost use Rattle.std.specs.Prelude.{◌≡◌};
 ghost use Rattle.words.specs.Semaphore.{bits};
 
 // The software bits to take, and the firmware and hardware bits that block them.
-#[derive(Drop)]
+#[derive(Clone, Copy)]
 pub struct Bits {
     pub sw: u32,
     pub fw: u32,
@@ -25,6 +25,7 @@ impl Bits {
     pub const I2C: u32 = 0x1800;
 
     // sync.rs `bits`, of the X552 and the X553.
+    #[tactic(auto, using(crate::proofs::Theorems::Semaphore::software_rust, crate::proofs::Theorems::Semaphore::firmware_rust, crate::proofs::Theorems::Semaphore::flash_rust), unfolding(crate::specs::Semaphore::bits))]
     pub fn of(mask: u32) -> Bits
         ensures { bits mask ≡ result }
     {
