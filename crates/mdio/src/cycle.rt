@@ -9,20 +9,20 @@ use hardware::{Action, Error, Reply, Unit, Word};
 use words::mdio::Command;
 
 // The number is how many reads are left after this one.
-#[derive(Drop)]
+#[derive(Clone, Copy)]
 pub enum Cycle {
     Starting,
     Waiting(u32),
     Reading(u32),
 }
 
-#[derive(Drop)]
+#[derive(Clone, Copy)]
 pub enum CycleStep {
     Ask(Action, Cycle),
     Done(Unit),
 }
 
-#[derive(Drop)]
+#[derive(Clone, Copy)]
 pub struct CycleRan {
     pub host: Host,
     pub step: CycleStep,
@@ -31,6 +31,7 @@ pub struct CycleRan {
 impl Cycle {
     pub const MSCA: u32 = 0x425c;
 
+    #[tactic(auto, using(hardware::proofs::Laws::carry_more, hardware::proofs::Laws::carry_none))]
     fn again(left: u32, last: u32) -> CycleStep
         ensures { told_cycle result ≡ cycle_times left last }
     {
@@ -46,6 +47,7 @@ impl Cycle {
         }
     }
 
+    #[tactic(auto, unfolding(reference::specs::Mdio::cycle))]
     pub fn start(command: u32) -> CycleStep
         ensures { told_cycle result ≡ cycle command }
     {

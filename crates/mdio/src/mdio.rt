@@ -19,7 +19,7 @@ use hardware::{Action, Reply, Unit, Word};
 use words::mdio::Command;
 
 // What is asked of the PHY, at mdio.rs's `address`.
-#[derive(Drop)]
+#[derive(Clone, Copy)]
 pub enum Wanted {
     Read(u32),
     // the value
@@ -27,13 +27,13 @@ pub enum Wanted {
 }
 
 // Which cycle runs.
-#[derive(Drop)]
+#[derive(Clone, Copy)]
 pub enum MdioPlace {
     Address,
     Operation,
 }
 
-#[derive(Drop)]
+#[derive(Clone, Copy)]
 pub enum Mdio {
     // write_reg's value is on its way to MSRWD.
     Value,
@@ -43,7 +43,7 @@ pub enum Mdio {
 }
 
 // Done: the value read, or 0 after a write
-#[derive(Drop)]
+#[derive(Clone, Copy)]
 pub enum MdioStep {
     Ask(Action, Mdio),
     Done(Word),
@@ -70,7 +70,7 @@ impl Wanted {
     }
 }
 
-#[derive(Drop)]
+#[derive(Clone, Copy)]
 pub struct MdioRan {
     pub host: Host,
     pub step: MdioStep,
@@ -144,6 +144,7 @@ impl Mdio {
     }
 
     // Over a script: one action, or as much as a machine inside takes.
+    #[tactic(auto, using(drive::proofs::Laws::told_as, drive::proofs::Laws::from_as, crate::proofs::Moved::cycle_moves))]
     fn once(self, a: Action, wanted: Wanted, h: Host, replies: &[u32], t: &mut [u32]) -> MdioRan
         ensures { Moves replies.now (told_mdio wanted (MdioStep.Ask a self)) (tape h t.old) (told_mdio wanted result.step) (tape result.host t.new) }
     {

@@ -13,7 +13,7 @@ use hardware::{Action, Error, Regs, Reply, Unit, Word};
 use words::semaphore::Bits;
 
 // The first number is how many tries are left after this one.
-#[derive(Drop)]
+#[derive(Clone, Copy)]
 pub enum AcquireBits {
     Locking(u32, Lock),
     Reading(u32),
@@ -26,13 +26,13 @@ pub enum AcquireBits {
     Switching(SetMux),
 }
 
-#[derive(Drop)]
+#[derive(Clone, Copy)]
 pub enum AcquireBitsStep {
     Ask(Action, AcquireBits),
     Done(Unit),
 }
 
-#[derive(Drop)]
+#[derive(Clone, Copy)]
 pub struct AcquireBitsRan {
     pub host: Host,
     pub step: AcquireBitsStep,

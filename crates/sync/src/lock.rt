@@ -23,25 +23,26 @@ use drive::{Acted, Host, act};
 use hardware::{Action, Error, Port, Regs, Reply, Unit, Word};
 
 // smbi. The number is how many reads are left after this one.
-#[derive(Drop)]
+#[derive(Clone, Copy)]
 pub enum Smbi {
     Reading(u32),
     Waiting(u32),
 }
 
-#[derive(Drop)]
+#[derive(Clone, Copy)]
 pub enum SmbiStep {
     Ask(Action, Smbi),
     Done(Unit),
 }
 
-#[derive(Drop)]
+#[derive(Clone, Copy)]
 pub struct SmbiRan {
     pub host: Host,
     pub step: SmbiStep,
 }
 
 impl Smbi {
+    #[tactic(auto, using(hardware::proofs::Laws::times_more, hardware::proofs::Laws::times_none))]
     fn again(swsm: u32, left: u32) -> SmbiStep
         ensures { told_smbi swsm result ≡ smbi_times swsm left }
     {
@@ -119,13 +120,13 @@ impl Smbi {
 }
 
 // clear: read, then write with some bits clear.
-#[derive(Drop)]
+#[derive(Clone, Copy)]
 pub enum Clear {
     Reading,
     Writing,
 }
 
-#[derive(Drop)]
+#[derive(Clone, Copy)]
 pub enum ClearStep {
     Ask(Action, Clear),
     Done(Unit),
@@ -155,7 +156,7 @@ impl Clear {
 }
 
 // lock: SMBI, then REGSMP. The number is how many reads are left after this one.
-#[derive(Drop)]
+#[derive(Clone, Copy)]
 pub enum Lock {
     Smbi(Smbi),
     Reading(u32),
@@ -164,13 +165,13 @@ pub enum Lock {
     Flushing,
 }
 
-#[derive(Drop)]
+#[derive(Clone, Copy)]
 pub enum LockStep {
     Ask(Action, Lock),
     Done(Unit),
 }
 
-#[derive(Drop)]
+#[derive(Clone, Copy)]
 pub struct LockRan {
     pub host: Host,
     pub step: LockStep,
@@ -181,6 +182,7 @@ impl Lock {
 
     pub const REGSMP: u32 = 0x8000_0000;
 
+    #[tactic(auto, using(hardware::proofs::Laws::times_more, hardware::proofs::Laws::times_none))]
     fn again(regs: Regs, left: u32) -> LockStep
         ensures { told_lock regs result ≡ regsmp_times regs left }
     {
@@ -318,20 +320,20 @@ impl Lock {
 }
 
 // unlock
-#[derive(Drop)]
+#[derive(Clone, Copy)]
 pub enum Unlock {
     Sync(Clear),
     Smbi(Clear),
     Flushing,
 }
 
-#[derive(Drop)]
+#[derive(Clone, Copy)]
 pub enum UnlockStep {
     Ask(Action, Unlock),
     Done(Unit),
 }
 
-#[derive(Drop)]
+#[derive(Clone, Copy)]
 pub struct UnlockRan {
     pub host: Host,
     pub step: UnlockStep,

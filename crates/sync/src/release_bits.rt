@@ -12,7 +12,7 @@ use drive::{Acted, Host, act};
 use hardware::{Action, Regs, Reply, Unit};
 
 // `sw` are the bits to clear, `micros` the wait after them.
-#[derive(Drop)]
+#[derive(Clone, Copy)]
 pub enum ReleaseBits {
     Switching(SetMux),
     Locking(Lock),
@@ -22,13 +22,13 @@ pub enum ReleaseBits {
     Waiting,
 }
 
-#[derive(Drop)]
+#[derive(Clone, Copy)]
 pub enum ReleaseBitsStep {
     Ask(Action, ReleaseBits),
     Done(Unit),
 }
 
-#[derive(Drop)]
+#[derive(Clone, Copy)]
 pub struct ReleaseBitsRan {
     pub host: Host,
     pub step: ReleaseBitsStep,

@@ -6,14 +6,14 @@ ghost use Rattle.sync.specs.Bits.{resume_mux, told_mux, mux_read};
 
 use hardware::{Action, Port, Reply, Unit, Word};
 
-#[derive(Drop)]
+#[derive(Clone, Copy)]
 pub enum SetMux {
     Reading,
     Writing,
     Flushing,
 }
 
-#[derive(Drop)]
+#[derive(Clone, Copy)]
 pub enum SetMuxStep {
     Ask(Action, SetMux),
     Done(Unit),

@@ -16,19 +16,20 @@ use drive::Host;
 use hardware::{Action, Family, Port, Regs, Reply, Unit};
 use words::semaphore::Bits;
 
-#[derive(Drop)]
+#[derive(Clone, Copy)]
 pub enum Sync {
     Take(Regs, bool, AcquireBits),
     Give(Regs, ReleaseBits),
 }
 
-#[derive(Drop)]
+#[derive(Clone, Copy)]
 pub enum SyncStep {
     Ask(Action, Sync),
     Done(Unit),
 }
 
 // mux: the X552's port 1 reaches the I2C segment through a mux.
+#[tactic(auto, unfolding(reference::specs::Mdio::mask, reference::specs::Sync::mux))]
 fn mux(port: Port, mask: u32) -> bool
     ensures { mux port mask ≡ result }
 {
@@ -46,19 +47,21 @@ fn mux(port: Port, mask: u32) -> bool
 }
 
 // How long to wait after a release: PHY0, PHY1 and SW_MNG settle sooner.
+#[tactic(auto, unfolding(reference::specs::Mdio::mask, reference::specs::Sync::settle))]
 fn settle(mask: u32) -> u32
     ensures { settle mask ≡ result }
 {
     if mask & 0x406 == 0 { 2000 } else { 10 }
 }
 
-#[derive(Drop)]
+#[derive(Clone, Copy)]
 pub struct SyncRan {
     pub host: Host,
     pub step: SyncStep,
 }
 
 impl Sync {
+    #[tactic(auto, unfolding(reference::specs::Mdio::mask))]
     fn taking(regs: Regs, on: bool, mask: u32, step: AcquireBitsStep) -> SyncStep
         ensures { told_sync mask result ≡ told_acquire regs (bits mask) on step }
     {
@@ -68,6 +71,7 @@ impl Sync {
         }
     }
 
+    #[tactic(auto, unfolding(reference::specs::Mdio::mask, reference::specs::Sync::settle))]
     fn giving(regs: Regs, mask: u32, step: ReleaseBitsStep) -> SyncStep
         ensures { told_sync mask result ≡ told_release regs (bits mask).sw (settle mask) step }
     {
@@ -78,6 +82,7 @@ impl Sync {
     }
 
     // acquire_bits at its first action, which is always a read of SWSM
+    #[tactic(auto, unfolding(reference::specs::Sync::acquire_bits))]
     pub fn first(port: Port, mask: u32) -> Sync
         ensures { acquire_bits port mask ≡ ask (Read (regs port.family).swsm) (λ x. resume_sync mask result x) }
     {
@@ -100,6 +105,7 @@ impl Sync {
     }
 
     // release_bits
+    #[tactic(auto, unfolding(reference::specs::Mdio::mask, reference::specs::Sync::release_bits))]
     pub fn give(port: Port, mask: u32) -> SyncStep
         ensures { told_sync mask result ≡ release_bits port mask }
     {
@@ -113,6 +119,7 @@ impl Sync {
         )
     }
 
+    #[tactic(auto, unfolding(reference::specs::Mdio::mask))]
     pub fn next(self, mask: u32, reply: Reply) -> SyncStep
         ensures { told_sync mask result ≡ resume_sync mask self reply }
     {
@@ -128,6 +135,7 @@ impl Sync {
     }
 
     // Over a script, as far as it goes.
+    #[tactic(auto, using(drive::proofs::Laws::told_as, drive::proofs::Laws::from_as))]
     pub fn run(self, a: Action, mask: u32, h: Host, replies: &[u32], t: &mut [u32]) -> SyncRan
         ensures { Moves replies.now (told_sync mask (SyncStep.Ask a self)) (tape h t.old) (told_sync mask result.step) (tape result.host t.new) }
     {

@@ -1,0 +1,16 @@
+use Prim.Native.Nat.{ℕ}
+use mathlib.Core.Path.{◌≡◌}
+use native.Mathlib.Omega.{arith}
+use Rattle.hardware.proofs.Laws.{times_more, carry_more}
+use Rattle.reference.specs.Sync.{acquire_bits}
+use Rattle.sync.proofs.sync.Sync.first.Goals as goal
+
+tries : ◌≡◌ {A = ℕ} 1000 0 → ⊥
+tries h = omega (arith, h)
+
+reads : ◌≡◌ {A = ℕ} 2000 0 → ⊥
+reads h = omega (arith, h)
+
+pub returns : goal.returns
+unfolding acquire_bits
+returns c = simp (c.of.ensures, c.mux.ensures, carry_more tries, times_more reads)
