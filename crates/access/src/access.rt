@@ -19,7 +19,7 @@ use sideband::kr::KrWanted;
 use words::mdio::address;
 use words::semaphore::Bits;
 
-#[derive(Drop)]
+#[derive(Clone, Copy)]
 pub enum Job {
     // register
     Read(u32),
@@ -41,7 +41,7 @@ pub enum Job {
     NvmWord(u16),
 }
 
-#[derive(Drop)]
+#[derive(Clone, Copy)]
 pub enum Access {
     Reading,
     Writing,
@@ -53,14 +53,14 @@ pub enum Access {
 }
 
 // A job's first action, and where its access stands then.
-#[derive(Drop)]
+#[derive(Clone, Copy)]
 pub struct Begun {
     pub action: Action,
     pub access: Access,
 }
 
 // Done: what it gave, 0 for nothing, and how many words of the host block belong to it.
-#[derive(Drop)]
+#[derive(Clone, Copy)]
 pub enum AccessStep {
     Ask(Action, Access),
     Done(Word, usize),

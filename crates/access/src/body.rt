@@ -12,7 +12,7 @@ use sideband::kr::{Kr, KrStep, KrWanted};
 use sideband::nvm::{Nvm, NvmStep};
 
 // What the lock is for, with the Rust's arguments.
-#[derive(Drop)]
+#[derive(Clone, Copy)]
 pub enum Held {
     Mdio(Wanted),
     Kr(KrWanted),
@@ -20,7 +20,7 @@ pub enum Held {
     Nvm(u16),
 }
 
-#[derive(Drop)]
+#[derive(Clone, Copy)]
 pub enum Body {
     Mdio(Wanted, Mdio),
     Kr(KrWanted, Kr),
@@ -28,7 +28,7 @@ pub enum Body {
 }
 
 // Done: the value, or 0 for nothing
-#[derive(Drop)]
+#[derive(Clone, Copy)]
 pub enum BodyStep {
     Ask(Action, Body),
     Done(Word),

@@ -26,7 +26,7 @@ use hostif::token::{Flag, Token, TokenStep};
 use sync::sync::{Sync, SyncStep};
 
 // Where acquire_bits or release_bits runs.
-#[derive(Drop)]
+#[derive(Clone, Copy)]
 pub enum BitsPlace {
     // acquire without TOKEN
     Plain,
@@ -39,14 +39,14 @@ pub enum BitsPlace {
 }
 
 // Why the token's command runs.
-#[derive(Drop)]
+#[derive(Clone, Copy)]
 pub enum TokenPlace {
     // acquire: tries left after this one
     Taking(u32),
     Giving,
 }
 
-#[derive(Drop)]
+#[derive(Clone, Copy)]
 pub enum Hold {
     Bits(BitsPlace, Sync),
     Token(TokenPlace, Command),
@@ -54,7 +54,7 @@ pub enum Hold {
     Pausing(u32),
 }
 
-#[derive(Drop)]
+#[derive(Clone, Copy)]
 pub enum HoldStep {
     Ask(Action, Hold),
     Done(Unit),

@@ -24,7 +24,7 @@ use hardware::{Action, Port, Reply, Unit, Word};
 use hostif::command::both;
 
 // Why acquire or release runs.
-#[derive(Drop)]
+#[derive(Clone, Copy)]
 pub enum HoldPlace {
     // for itself
     Alone,
@@ -34,13 +34,13 @@ pub enum HoldPlace {
     Releasing(Word),
 }
 
-#[derive(Drop)]
+#[derive(Clone, Copy)]
 pub enum Locked {
     Hold(HoldPlace, Hold),
     Body(Body),
 }
 
-#[derive(Drop)]
+#[derive(Clone, Copy)]
 pub enum LockedStep {
     Ask(Action, Locked),
     Done(Word),

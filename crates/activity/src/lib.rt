@@ -12,13 +12,13 @@ use hardware::{Error, Port, Word};
 use words::hostif::swap_bytes;
 
 // phy_activity's arguments.
-#[derive(Drop)]
+#[derive(Clone, Copy)]
 pub struct Asked {
     pub activity: u16,
     pub data: Words,
 }
 
-#[derive(Drop)]
+#[derive(Clone, Copy)]
 pub enum Activity {
     // tries left after this one
     Exchanging(u32),
@@ -27,13 +27,13 @@ pub enum Activity {
 }
 
 // R<[u32; 4]>
-#[derive(Drop)]
+#[derive(Clone, Copy)]
 pub enum Found {
     Ok(Words),
     Err(Error),
 }
 
-#[derive(Drop)]
+#[derive(Clone, Copy)]
 pub enum ActivityStep {
     Ask(Job, Activity),
     Done(Found),

@@ -12,7 +12,7 @@ use packed_access::tape::{long, wide, word};
 
 // The layout is the header's. What the words mean is nobody's business but this crate's.
 #[repr(C)]
-#[derive(Drop)]
+#[derive(Clone, Copy)]
 pub struct Held {
     pub words: [u32; 65],
     pub block: [u32; 16],

@@ -28,7 +28,7 @@ use trace::operation::named;
 
 // What `mansruoy_begin` and `mansruoy_step` answer: 0 and the conversation as it is now, or a number and what was handed in.
 #[repr(C)]
-#[derive(Drop)]
+#[derive(Clone, Copy)]
 pub struct Stepped {
     pub number: u32,
     pub to: Held,
@@ -36,7 +36,7 @@ pub struct Stepped {
 
 // The action that is due: 1 read, 2 write, 3 wait.
 #[repr(C)]
-#[derive(Drop)]
+#[derive(Clone, Copy)]
 pub struct Asked {
     pub number: u32,
     pub kind: u32,
@@ -46,7 +46,7 @@ pub struct Asked {
 
 // The answer of an operation: 0 or its error's number, so many words, and what was done for it.
 #[repr(C)]
-#[derive(Drop)]
+#[derive(Clone, Copy)]
 pub struct Answered {
     pub number: u32,
     pub error: u32,
@@ -58,7 +58,7 @@ pub struct Answered {
 
 // What `mansruoy_run` answers: how it stopped, the conversation then, the next write place, and how many reply words it used.
 #[repr(C)]
-#[derive(Drop)]
+#[derive(Clone, Copy)]
 pub struct Ran {
     pub number: u32,
     pub to: Held,

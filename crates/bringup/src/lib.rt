@@ -47,13 +47,13 @@ use x553::prepare::PrepareFirmware;
 use x553::sgmii::{Sgmii, SgmiiSet, SgmiiStep};
 
 // What is set up on the KR PHY's registers unless there is a veto: kr_autoneg, with KR or without, or sgmii.
-#[derive(Drop)]
+#[derive(Clone, Copy)]
 pub enum Lane {
     Kr(bool),
     Sgmii,
 }
 
-#[derive(Drop)]
+#[derive(Clone, Copy)]
 pub enum Bringup {
     // x553's prepare, set_mdio_speed: fast
     Clock(bool, Clock),
@@ -73,7 +73,7 @@ pub enum Bringup {
     SetupFirmware(SetupFirmware),
 }
 
-#[derive(Drop)]
+#[derive(Clone, Copy)]
 pub enum BringupStep {
     Ask(Job, Bringup),
     Done(Answer),

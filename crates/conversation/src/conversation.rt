@@ -17,7 +17,7 @@ use started::operation::{Op, Place};
 use watch::store::{Left, Watch};
 
 // The whole state of a conversation.
-#[derive(Drop)]
+#[derive(Clone, Copy)]
 pub struct Conversation {
     pub port: Port,
     pub place: Place,
@@ -27,7 +27,7 @@ pub struct Conversation {
 }
 
 // How a step or a run stopped. Done: a step's action is done, or a run has come to the conversation's end.
-#[derive(Drop)]
+#[derive(Clone, Copy)]
 pub enum Stop {
     Done,
     AfterEnd,
@@ -37,7 +37,7 @@ pub enum Stop {
 }
 
 // What a step answers. Where it stopped with a number, the conversation is the one that was handed in.
-#[derive(Drop)]
+#[derive(Clone, Copy)]
 pub struct Stepped {
     pub stop: Stop,
     pub to: Conversation,

@@ -13,7 +13,7 @@ use started::operation::{Op, OpRan, Place};
 
 // What a run answers: why it stopped, the conversation, the next write place in the transcript, and how many reply words
 // it used. A caller stopped by 26 or 27 goes on from these.
-#[derive(Drop)]
+#[derive(Clone, Copy)]
 pub struct Ran {
     pub stop: Stop,
     pub to: Conversation,
@@ -22,7 +22,7 @@ pub struct Ran {
 }
 
 // Where a run has stopped.
-#[derive(Drop)]
+#[derive(Clone, Copy)]
 struct Reached {
     stop: Stop,
     ran: OpRan,

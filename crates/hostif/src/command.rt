@@ -16,21 +16,21 @@ use sync::sync::{Sync, SyncStep};
 use words::semaphore::Bits;
 
 // Where it runs acquire_bits or release_bits.
-#[derive(Drop)]
+#[derive(Clone, Copy)]
 pub enum CommandPlace {
     Acquiring,
     // with what the closure gave
     Releasing(Word),
 }
 
-#[derive(Drop)]
+#[derive(Clone, Copy)]
 pub enum Command {
     Sync(CommandPlace, Sync),
     Body(Exchange),
 }
 
 // Done: the reply's status
-#[derive(Drop)]
+#[derive(Clone, Copy)]
 pub enum CommandStep {
     Ask(Action, Command),
     Done(Word),
@@ -89,6 +89,7 @@ impl Command {
     }
 
     // At its first action, SW_MNG's read of SWSM. It needs no block yet.
+    #[tactic(auto, unfolding(reference::specs::Hostif::command))]
     pub fn first(port: Port) -> Command
         ensures { (b : List ℕ) → command port b ≡ ask (Read (regs port.family).swsm) (λ x. resume_command port result b x) }
     {

@@ -9,7 +9,7 @@ use crate::post::{Post, PostStep};
 use hardware::{Action, Error, Reply, Word};
 use words::hostif::{FLEX_MNG, fits, flex_mng, reply_words};
 
-#[derive(Drop)]
+#[derive(Clone, Copy)]
 pub enum Exchange {
     Post(Post),
     // the last HICR
@@ -19,7 +19,7 @@ pub enum Exchange {
 }
 
 // Done: the reply's status
-#[derive(Drop)]
+#[derive(Clone, Copy)]
 pub enum ExchangeStep {
     Ask(Action, Exchange),
     Done(Word),
@@ -39,6 +39,7 @@ impl Exchange {
     }
 
     // A reply that does not fit leaves the block as it was.
+    #[tactic(auto, using(crate::proofs::Fits::fits_some), unfolding(words::specs::Hostif::reply_words, reference::specs::Hostif::received))]
     fn received(block: &mut [u32], last: u32, head: u32) -> ExchangeStep
         ensures { told_exchange block.new result ≡ received last head block.old }
     {
@@ -52,6 +53,7 @@ impl Exchange {
         }
     }
 
+    #[tactic(auto, using(hardware::proofs::Laws::block_more, hardware::proofs::Laws::block_none))]
     fn again_rest(block: &[u32], status: u32, left: u32, i: usize) -> ExchangeStep
         ensures { told_exchange block.now result ≡ rest left status i block.now }
     {

@@ -7,7 +7,7 @@ ghost use Rattle.hostif.specs.Post.{resume_post, told_post, post_fwsts, post_hic
 use hardware::{Action, Error, Reply, Unit, Word};
 use words::hostif::flex_mng;
 
-#[derive(Drop)]
+#[derive(Clone, Copy)]
 pub enum Post {
     Fwsts,
     Fwri,
@@ -23,7 +23,7 @@ pub enum Post {
 }
 
 // Done: the last HICR
-#[derive(Drop)]
+#[derive(Clone, Copy)]
 pub enum PostStep {
     Ask(Action, Post),
     Done(Word),
@@ -45,6 +45,7 @@ impl Post {
     pub const SV: u32 = 0x4;
 
     // It needs no block yet.
+    #[tactic(auto, unfolding(reference::specs::Hostif::post))]
     pub fn start() -> PostStep
         ensures { (b : List ℕ) → told_post b result ≡ post b }
     {
@@ -78,6 +79,7 @@ impl Post {
         }
     }
 
+    #[tactic(auto, using(hardware::proofs::Laws::each_more, hardware::proofs::Laws::each_none))]
     fn each_word(block: &[u32], hicr: u32, i: usize) -> PostStep
         ensures { told_post block.now result ≡ write_words block.now hicr i }
     {
@@ -94,6 +96,7 @@ impl Post {
         }
     }
 
+    #[tactic(auto, using(hardware::proofs::Laws::carry_more, hardware::proofs::Laws::carry_none))]
     fn again(left: u32, last: u32) -> PostStep
         ensures { (b : List ℕ) → told_post b result ≡ hicr_times left last }
     {
@@ -120,6 +123,7 @@ impl Post {
     }
 
     // The wait is over, by C or by its time.
+    #[tactic(auto, unfolding(reference::specs::Hostif::posted))]
     fn posted(last: u32) -> PostStep
         ensures { (b : List ℕ) → told_post b result ≡ posted last }
     {

@@ -12,20 +12,20 @@ use crate::command::{Command, CommandStep};
 use hardware::{Action, Error, Port, Regs, Word};
 
 // R<bool>
-#[derive(Drop)]
+#[derive(Clone, Copy)]
 pub enum Flag {
     Ok(bool),
     Err(Error),
 }
 
-#[derive(Drop)]
+#[derive(Clone, Copy)]
 pub enum TokenStep {
     Ask(Action, Command),
     Done(Flag),
 }
 
 // Ask for it, or give it back.
-#[derive(Drop)]
+#[derive(Clone, Copy)]
 pub struct Token {
     pub take: bool,
 }
@@ -40,6 +40,7 @@ impl Token {
     // header(TOKEN_COMMAND, 2)
     pub const HEADER: u32 = 0xff00_020a;
 
+    #[tactic(auto, unfolding(reference::specs::Hostif::token_word))]
     fn word(self, port: Port) -> u32
         ensures { token_word port self.take ≡ result }
     {
@@ -51,6 +52,7 @@ impl Token {
     }
 
     // Busy is an answer where it was asked for.
+    #[tactic(auto, unfolding(reference::specs::Hostif::token_status))]
     fn status(self, status: u8) -> Flag
         ensures { token_status self.take status ≡ end (flag_of result) }
     {
@@ -106,6 +108,7 @@ impl Token {
     }
 
     // At its first action, the command's.
+    #[tactic(auto, using(crate::proofs::Laws::token_begun))]
     pub fn first(self, port: Port, block: &mut [u32; 16]) -> Command
         ensures { token port self.take ≡ ask (Read (regs port.family).swsm) (λ x. resume_token port self.take result block.new x) }
     {
@@ -113,6 +116,7 @@ impl Token {
         Command::first(port)
     }
 
+    #[tactic(auto, unfolding(reference::specs::Hostif::token))]
     pub fn start(self, port: Port, block: &mut [u32; 16]) -> TokenStep
         ensures { told_token port self.take block.new result ≡ token port self.take }
     {

@@ -8,7 +8,7 @@ use hardware::{Port, Word};
 use words::kr::krm;
 
 // kr_modify's arguments. The bits to keep and to set stand for the Rust's closure.
-#[derive(Drop)]
+#[derive(Clone, Copy)]
 pub struct Change {
     // the register's address on lan 0
     pub port0: u32,
@@ -16,7 +16,7 @@ pub struct Change {
     pub set: u32,
 }
 
-#[derive(Drop)]
+#[derive(Clone, Copy)]
 pub enum KrModify {
     Reading,
     // the value written
@@ -24,7 +24,7 @@ pub enum KrModify {
 }
 
 // Done: the value written.
-#[derive(Drop)]
+#[derive(Clone, Copy)]
 pub enum KrModifyStep {
     Ask(Job, KrModify),
     Done(Word),

@@ -22,7 +22,7 @@ use answers::MaybeWord;
 use hardware::{Family, Port, Word};
 
 // Which call of kr_modify.
-#[derive(Drop)]
+#[derive(Clone, Copy)]
 pub enum KrPlace {
     // kr_autoneg's of LINK_CTRL_1: kr, kx
     Advertise(bool, bool),
@@ -41,7 +41,7 @@ pub enum KrPlace {
     RestartLane,
 }
 
-#[derive(Drop)]
+#[derive(Clone, Copy)]
 pub struct Sequence {
     pub place: KrPlace,
     // the first value written
@@ -49,7 +49,7 @@ pub struct Sequence {
     pub modify: KrModify,
 }
 
-#[derive(Drop)]
+#[derive(Clone, Copy)]
 pub enum SequenceStep {
     Ask(Job, Sequence),
     Done(Word),

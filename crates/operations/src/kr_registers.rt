@@ -14,7 +14,7 @@ use hardware::{Port, Word};
 use kr::modify::{Change, KrModify, KrModifyStep};
 use kr::sequence::{Sequence, SequenceStep};
 
-#[derive(Drop)]
+#[derive(Clone, Copy)]
 pub enum Kr {
     Modify(Change, KrModify),
     // restart_an, kr_autoneg

@@ -29,7 +29,7 @@ use watch::store::Watch;
 use words::link::Link;
 
 // What is left of an operation once its access has ended.
-#[derive(Drop)]
+#[derive(Clone, Copy)]
 pub enum After {
     // acquire, release, write_reg, kr_write
     Nothing,
@@ -51,7 +51,7 @@ pub enum After {
 }
 
 // Done: the answer, and how many words of the host block belong to it.
-#[derive(Drop)]
+#[derive(Clone, Copy)]
 pub enum AfterStep {
     Ask(Job, After),
     Done(Answer, usize),

@@ -27,7 +27,7 @@ use phy::probe::{Probe, ProbeStep, Probed};
 use phy::reset::{Reset, ResetStep};
 use phy::scan::{Scan, ScanStep, Searched};
 
-#[derive(Drop)]
+#[derive(Clone, Copy)]
 pub enum Mdio {
     Modify(Register, Modify),
     // phy

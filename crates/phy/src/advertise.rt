@@ -12,14 +12,14 @@ use hardware::{Port, Word};
 use hostif::token::Flag;
 
 // Option<bool>
-#[derive(Drop)]
+#[derive(Clone, Copy)]
 pub enum MaybeFlag {
     Nothing,
     Is(bool),
 }
 
 // advertise's arguments.
-#[derive(Drop)]
+#[derive(Clone, Copy)]
 pub struct Advertised {
     pub phy: u32,
     pub speeds: Speeds,
@@ -28,7 +28,7 @@ pub struct Advertised {
 }
 
 // Which call of modify: the register of each speed, and the restart.
-#[derive(Drop)]
+#[derive(Clone, Copy)]
 pub enum AdvertisePlace {
     Ten,
     One,
@@ -36,14 +36,14 @@ pub enum AdvertisePlace {
     Restart,
 }
 
-#[derive(Drop)]
+#[derive(Clone, Copy)]
 pub struct Advertise {
     pub place: AdvertisePlace,
     pub modify: Modify,
 }
 
 // Done: whether it was restarted.
-#[derive(Drop)]
+#[derive(Clone, Copy)]
 pub enum AdvertiseStep {
     Ask(Job, Advertise),
     Done(Flag),

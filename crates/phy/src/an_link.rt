@@ -10,13 +10,13 @@ use hardware::{Port, Word};
 use hostif::token::Flag;
 
 // Which read. The bit latches low, so the first says what was.
-#[derive(Drop)]
+#[derive(Clone, Copy)]
 pub enum AnLink {
     First,
     Second,
 }
 
-#[derive(Drop)]
+#[derive(Clone, Copy)]
 pub enum AnLinkStep {
     Ask(Job, AnLink),
     Done(Flag),

@@ -10,13 +10,13 @@ use crate::advertise::MaybeFlag;
 use access::access::Job;
 use hardware::{Family, Port, Unit, Word};
 
-#[derive(Drop)]
+#[derive(Clone, Copy)]
 pub enum Clock {
     Reading,
     Writing,
 }
 
-#[derive(Drop)]
+#[derive(Clone, Copy)]
 pub enum ClockStep {
     Ask(Job, Clock),
     Done(Unit),

@@ -7,7 +7,7 @@ use access::access::Job;
 use hardware::{Port, Word};
 
 // modify's arguments. The bits to keep and to set stand for the Rust's closure.
-#[derive(Drop)]
+#[derive(Clone, Copy)]
 pub struct Register {
     pub phy: u32,
     pub device: u32,
@@ -16,7 +16,7 @@ pub struct Register {
     pub set: u16,
 }
 
-#[derive(Drop)]
+#[derive(Clone, Copy)]
 pub enum Modify {
     Reading,
     // the value written
@@ -24,7 +24,7 @@ pub enum Modify {
 }
 
 // Done: the value written.
-#[derive(Drop)]
+#[derive(Clone, Copy)]
 pub enum ModifyStep {
     Ask(Job, Modify),
     Done(Word),

@@ -9,7 +9,7 @@ use access::access::Job;
 use hardware::{Error, Port, Word};
 use words::phy::{PhyId, phy_id};
 
-#[derive(Drop)]
+#[derive(Clone, Copy)]
 pub enum Probe {
     High,
     // 1.2
@@ -17,13 +17,13 @@ pub enum Probe {
 }
 
 // R<Option<u32>>
-#[derive(Drop)]
+#[derive(Clone, Copy)]
 pub enum Probed {
     Ok(PhyId),
     Err(Error),
 }
 
-#[derive(Drop)]
+#[derive(Clone, Copy)]
 pub enum ProbeStep {
     Ask(Job, Probe),
     Done(Probed),

@@ -10,7 +10,7 @@ use access::access::Job;
 use hardware::{Error, Port, Unit, Word};
 
 // The number is how many polls are left after this one.
-#[derive(Drop)]
+#[derive(Clone, Copy)]
 pub enum Reset {
     Starting,
     Waiting(u32),
@@ -19,7 +19,7 @@ pub enum Reset {
     Checking,
 }
 
-#[derive(Drop)]
+#[derive(Clone, Copy)]
 pub enum ResetStep {
     Ask(Job, Reset),
     Done(Unit),

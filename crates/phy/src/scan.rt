@@ -12,20 +12,20 @@ use hardware::{Error, Port, Word};
 use words::phy::PhyId;
 
 // The PHY that is probed.
-#[derive(Drop)]
+#[derive(Clone, Copy)]
 pub struct Scan {
     pub phy: u8,
     pub probe: Probe,
 }
 
 // R<Option<(u8, u32)>>
-#[derive(Drop)]
+#[derive(Clone, Copy)]
 pub enum Searched {
     Ok(Scanned),
     Err(Error),
 }
 
-#[derive(Drop)]
+#[derive(Clone, Copy)]
 pub enum ScanStep {
     Ask(Job, Scan),
     Done(Searched),

@@ -8,7 +8,7 @@ use drive::Host;
 use hardware::Action;
 use sideband::idle::Idle;
 
-#[derive(Drop)]
+#[derive(Clone, Copy)]
 pub struct BodyRan {
     pub host: Host,
     pub step: BodyStep,

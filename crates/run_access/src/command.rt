@@ -8,7 +8,7 @@ use hardware::{Action, Port};
 use hostif::command::{Command, CommandStep};
 use words::semaphore::Bits;
 
-#[derive(Drop)]
+#[derive(Clone, Copy)]
 pub struct CommandRan {
     pub host: Host,
     pub step: CommandStep,

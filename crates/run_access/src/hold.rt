@@ -7,7 +7,7 @@ use access::hold::{Hold, HoldStep};
 use drive::{Acted, Host, act};
 use hardware::{Action, Port};
 
-#[derive(Drop)]
+#[derive(Clone, Copy)]
 pub struct HoldRan {
     pub host: Host,
     pub step: HoldStep,

@@ -8,7 +8,7 @@ use access::locked::{Locked, LockedStep};
 use drive::Host;
 use hardware::{Action, Port};
 
-#[derive(Drop)]
+#[derive(Clone, Copy)]
 pub struct LockedRan {
     pub host: Host,
     pub step: LockedStep,

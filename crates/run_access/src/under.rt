@@ -7,7 +7,7 @@ use access::access::{Access, AccessStep};
 use drive::{Acted, Host, act};
 use hardware::{Action, Port};
 
-#[derive(Drop)]
+#[derive(Clone, Copy)]
 pub struct AccessRan {
     pub host: Host,
     pub step: AccessStep,

@@ -7,7 +7,7 @@ ghost use Rattle.drive.specs.Moves.{tape, Moves};
 use drive::{Acted, Host, act};
 use hardware::{Action, Error, Reply, Word};
 
-#[derive(Drop)]
+#[derive(Clone, Copy)]
 pub enum Idle {
     // reads left after this one
     Reading(u32),
@@ -16,14 +16,14 @@ pub enum Idle {
 }
 
 // Done: the last CTRL
-#[derive(Drop)]
+#[derive(Clone, Copy)]
 pub enum IdleStep {
     Ask(Action, Idle),
     Done(Word),
 }
 
 // Ask: the script or the transcript has come to its end
-#[derive(Drop)]
+#[derive(Clone, Copy)]
 pub struct IdleRan {
     pub host: Host,
     pub step: IdleStep,

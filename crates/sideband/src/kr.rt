@@ -11,7 +11,7 @@ use drive::{Acted, Host, act};
 use hardware::{Action, Error, Reply, Unit, Word};
 
 // What is asked of the KR PHY.
-#[derive(Drop)]
+#[derive(Clone, Copy)]
 pub enum KrWanted {
     // address
     Read(u32),
@@ -19,7 +19,7 @@ pub enum KrWanted {
     Write(u32, u32),
 }
 
-#[derive(Drop)]
+#[derive(Clone, Copy)]
 pub enum Kr {
     // the wait before CTRL is written
     First(Idle),
@@ -30,7 +30,7 @@ pub enum Kr {
 }
 
 // Done: the value read, or 0 after a write
-#[derive(Drop)]
+#[derive(Clone, Copy)]
 pub enum KrStep {
     Ask(Action, Kr),
     Done(Word),
@@ -47,7 +47,7 @@ impl KrWanted {
     }
 }
 
-#[derive(Drop)]
+#[derive(Clone, Copy)]
 pub struct KrRan {
     pub host: Host,
     pub step: KrStep,

@@ -8,14 +8,14 @@ use hardware::{Action, Reply, Word};
 use hostif::post::{Post, PostStep};
 use words::hostif::{flex_mng, nvm_address};
 
-#[derive(Drop)]
+#[derive(Clone, Copy)]
 pub enum Nvm {
     Post(Post),
     Data,
 }
 
 // Done: the word
-#[derive(Drop)]
+#[derive(Clone, Copy)]
 pub enum NvmStep {
     Ask(Action, Nvm),
     Done(Word),

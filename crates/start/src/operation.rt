@@ -9,7 +9,7 @@ use phy::modify::Register;
 use watch::store::Watch;
 
 // What the host asks for.
-#[derive(Drop)]
+#[derive(Clone, Copy)]
 pub enum Operation {
     Veto,
     Link,

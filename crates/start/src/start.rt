@@ -27,7 +27,7 @@ use watch::poll::Poll;
 use watch::store::Watch;
 
 // An operation's first step: `acquire` and `release` have an access alone, of which nothing is made.
-#[derive(Drop)]
+#[derive(Clone, Copy)]
 pub enum First {
     Access(AccessStep),
     After(AfterStep),

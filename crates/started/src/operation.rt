@@ -14,7 +14,7 @@ use operations::{After, AfterStep};
 use run_access::under;
 
 // A running operation, at the action that its access asks for.
-#[derive(Drop)]
+#[derive(Clone, Copy)]
 pub struct Op {
     pub access: Access,
     pub after: After,
@@ -22,14 +22,14 @@ pub struct Op {
 
 // Where a conversation stands: at its end, with how many words of the host block belong to the answer, or at an action that
 // it asks for.
-#[derive(Drop)]
+#[derive(Clone, Copy)]
 pub enum Place {
     Ended(Answer, usize),
     Asks(Action, Op),
 }
 
 // A place on a script and a transcript.
-#[derive(Drop)]
+#[derive(Clone, Copy)]
 pub struct OpRan {
     pub host: Host,
     pub place: Place,

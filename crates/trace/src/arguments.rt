@@ -7,7 +7,7 @@ ghost use Rattle.trace.specs.Arguments.{numbers, arguments_of};
 use text::{Number, Span, hex, word};
 
 // How many there are; or that one of them is no number.
-#[derive(Drop)]
+#[derive(Clone, Copy)]
 pub enum Arguments {
     Are(usize),
     Bad,

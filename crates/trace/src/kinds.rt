@@ -7,7 +7,7 @@ use start::operation::Operation;
 use text::is;
 
 // An operation, and how many of the argument words are its host block.
-#[derive(Drop)]
+#[derive(Clone, Copy)]
 pub enum OperationLine {
     Is(Operation, usize),
     Bad,

@@ -28,7 +28,7 @@ use phy::modify::Register;
 use words::link::{Megabits, copper};
 
 // The number is 7.c800's low three bits.
-#[derive(Drop)]
+#[derive(Clone, Copy)]
 pub enum Poll {
     First(AnLink),
     Status,
@@ -38,13 +38,13 @@ pub enum Poll {
 }
 
 // R<Copper>, with what is left in the Watch.
-#[derive(Drop)]
+#[derive(Clone, Copy)]
 pub enum Polled {
     Ok(Copper, Left),
     Err(Error),
 }
 
-#[derive(Drop)]
+#[derive(Clone, Copy)]
 pub enum PollStep {
     Ask(Job, Poll),
     Done(Polled),

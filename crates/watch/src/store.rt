@@ -5,7 +5,7 @@ ghost use Rattle.watch.specs.Watch.{new_watch, stored_in};
 use answers::{Internal, MaybeStatus};
 
 // x552.rs's Watch: follows the X557's copper link.
-#[derive(Drop)]
+#[derive(Clone, Copy)]
 pub struct Watch {
     pub phy: u32,
     pub internal: Internal,
@@ -14,7 +14,7 @@ pub struct Watch {
 }
 
 // What a poll leaves in the Watch: the status that the internal link was forced for, and how often it was.
-#[derive(Drop)]
+#[derive(Clone, Copy)]
 pub struct Left {
     pub forced: MaybeStatus,
     pub reforced: u32,

@@ -29,7 +29,7 @@ use phy::an_link::{AnLink, AnLinkStep};
 use phy::modify::Register;
 
 // The number is how many waits are left after this one.
-#[derive(Drop)]
+#[derive(Clone, Copy)]
 pub enum CopperLink {
     Abilities,
     Ixfi(Speeds, Sequence),
@@ -40,20 +40,20 @@ pub enum CopperLink {
 }
 
 // R<Setup>
-#[derive(Drop)]
+#[derive(Clone, Copy)]
 pub enum Linked {
     Ok(CopperSetup),
     Err(Error),
 }
 
-#[derive(Drop)]
+#[derive(Clone, Copy)]
 pub enum LinkStep {
     Ask(Job, CopperLink),
     Done(Linked),
 }
 
 // The call's arguments: the veto, and what was prepared.
-#[derive(Drop)]
+#[derive(Clone, Copy)]
 pub struct Copper {
     pub veto: bool,
     pub x557: X557,

@@ -36,14 +36,14 @@ use phy::scan::{Scan, ScanStep, Searched};
 use words::phy::PhyId;
 
 // The PHY that was found, and NW_MNG_IF_SEL.
-#[derive(Drop)]
+#[derive(Clone, Copy)]
 pub struct Phy {
     pub phy: u8,
     pub id: u32,
     pub sel: u32,
 }
 
-#[derive(Drop)]
+#[derive(Clone, Copy)]
 pub enum PrepareCopper {
     Clock(Clock),
     Sel,
@@ -59,13 +59,13 @@ pub enum PrepareCopper {
 }
 
 // R<Prepared>
-#[derive(Drop)]
+#[derive(Clone, Copy)]
 pub enum Prepared {
     Ok(X557),
     Err(Error),
 }
 
-#[derive(Drop)]
+#[derive(Clone, Copy)]
 pub enum PrepareStep {
     Ask(Job, PrepareCopper),
     Done(Prepared),

@@ -27,7 +27,7 @@ use activity::{Activity, ActivityStep, Found};
 use answers::{FirmwarePhy, FirmwareSetup, MaybeWord, Words};
 use hardware::{Error, Port, Word};
 
-#[derive(Drop)]
+#[derive(Clone, Copy)]
 pub enum SetupFirmware {
     // whether it said that it is down
     Mmngc(FirmwarePhy, bool),
@@ -41,13 +41,13 @@ pub enum SetupFirmware {
 }
 
 // R<Setup>
-#[derive(Drop)]
+#[derive(Clone, Copy)]
 pub enum FirmwareSet {
     Ok(FirmwareSetup),
     Err(Error),
 }
 
-#[derive(Drop)]
+#[derive(Clone, Copy)]
 pub enum FirmwareStep {
     Ask(Job, SetupFirmware),
     Done(FirmwareSet),

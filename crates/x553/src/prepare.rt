@@ -23,21 +23,21 @@ use answers::{FirmwarePhy, Words};
 use hardware::{Error, Port, Word};
 
 // Which activity after the first.
-#[derive(Drop)]
+#[derive(Clone, Copy)]
 pub enum FirmwarePlace {
     Reset,
     Init,
     Setup,
 }
 
-#[derive(Drop)]
+#[derive(Clone, Copy)]
 pub enum PrepareFirmware {
     Info(Activity),
     Then(FirmwarePlace, FirmwarePhy, Activity),
 }
 
 // Prepared::Firmware: whether the PHY was reset, and whether it then said that it is down.
-#[derive(Drop)]
+#[derive(Clone, Copy)]
 pub struct FirmwarePrepared {
     pub phy: FirmwarePhy,
     pub reset: bool,
@@ -45,13 +45,13 @@ pub struct FirmwarePrepared {
 }
 
 // R<Prepared>
-#[derive(Drop)]
+#[derive(Clone, Copy)]
 pub enum Prepared {
     Ok(FirmwarePrepared),
     Err(Error),
 }
 
-#[derive(Drop)]
+#[derive(Clone, Copy)]
 pub enum PrepareStep {
     Ask(Job, PrepareFirmware),
     Done(Prepared),

@@ -13,7 +13,7 @@ use kr::modify::{Change, KrModify, KrModifyStep};
 use kr::sequence::{KrPlace, Sequence, SequenceStep};
 
 // The numbers are LINK_CTRL_1 and SGMII_CTRL as written.
-#[derive(Drop)]
+#[derive(Clone, Copy)]
 pub enum Sgmii {
     Ctrl(KrModify),
     Force(u32, KrModify),
@@ -22,13 +22,13 @@ pub enum Sgmii {
 }
 
 // R<Setup>
-#[derive(Drop)]
+#[derive(Clone, Copy)]
 pub enum SgmiiSet {
     Ok(SgmiiSetup),
     Err(Error),
 }
 
-#[derive(Drop)]
+#[derive(Clone, Copy)]
 pub enum SgmiiStep {
     Ask(Job, Sgmii),
     Done(SgmiiSet),

@@ -12,7 +12,7 @@ use kr::modify::{Change, KrModify, KrModifyStep};
 use kr::sequence::{KrPlace, Sequence, SequenceStep};
 use words::kr::krm;
 
-#[derive(Drop)]
+#[derive(Clone, Copy)]
 pub enum SgmiiAn {
     Ctrl(KrModify),
     // LINK_CTRL_1 as written
@@ -25,7 +25,7 @@ pub enum SgmiiAn {
 }
 
 // Done: FLX as written.
-#[derive(Drop)]
+#[derive(Clone, Copy)]
 pub enum SgmiiAnStep {
     Ask(Job, SgmiiAn),
     Done(Word),
