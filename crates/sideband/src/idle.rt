@@ -37,6 +37,7 @@ impl Idle {
     // The Rust's wait between two reads, in microseconds.
     pub const PAUSE: u32 = 10;
 
+    #[tactic(auto, using(hardware::proofs::Laws::carry_more, hardware::proofs::Laws::carry_none))]
     fn again(pause: u32, left: u32, last: u32) -> IdleStep
         ensures { told_idle pause result ≡ iosf_times pause left last }
     {
@@ -52,6 +53,7 @@ impl Idle {
         }
     }
 
+    #[tactic(auto, unfolding(reference::specs::X552::iosf_idle))]
     pub fn start(pause: u32) -> IdleStep
         ensures { told_idle pause result ≡ iosf_idle pause }
     {
