@@ -74,6 +74,7 @@ fn phy(lan: u32) -> u32
 }
 
 // mdio.rs's `mask`: the PHY bit, and the token on the X553.
+#[tactic(auto, unfolding(reference::specs::Mdio::mask))]
 fn mask(port: Port) -> u32
     ensures { mask port ≡ result }
 {
@@ -169,6 +170,7 @@ impl Access {
         }
     }
 
+    #[tactic(auto, unfolding(reference::specs::Acquire::acquire))]
     pub fn acquire(port: Port, mask: u32, block: &mut [u32; 16]) -> AccessStep
         ensures { told_access port block.new result ≡ no_word (acquire port mask) }
     {
@@ -177,6 +179,7 @@ impl Access {
     }
 
     // That of mask 0 is done at once.
+    #[tactic(auto, unfolding(reference::specs::Acquire::release))]
     pub fn release(port: Port, mask: u32, block: &mut [u32; 16]) -> AccessStep
         ensures { told_access port block.new result ≡ no_word (release port mask) }
     {

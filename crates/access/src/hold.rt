@@ -87,6 +87,7 @@ impl Hold {
         }
     }
 
+    #[tactic(auto, unfolding(reference::specs::Acquire::acquire_ask))]
     fn ask(port: Port, hw: u32, block: &mut [u32; 16], left: u32) -> HoldStep
         ensures { told_hold port hw block.new result ≡ acquire_ask port hw (acquire_times port hw left) }
     {
@@ -116,6 +117,7 @@ impl Hold {
         }
     }
 
+    #[tactic(auto, unfolding(reference::specs::Acquire::acquire_got))]
     fn got(port: Port, hw: u32, left: u32, granted: Flag) -> HoldStep
         ensures { (b : List ℕ) → told_hold port hw b result ≡ acquire_got port hw (acquire_times port hw left) (flag_of granted) }
     {
@@ -132,6 +134,7 @@ impl Hold {
     }
 
     // The bits are given back before the token is asked for again.
+    #[tactic(auto, unfolding(reference::specs::Acquire::acquire_given))]
     fn given(port: Port, hw: u32, left: u32, granted: Flag) -> HoldStep
         ensures { (b : List ℕ) → told_hold port hw b result ≡ acquire_given port hw (acquire_times port hw left) (flag_of granted) }
     {
@@ -157,6 +160,7 @@ impl Hold {
         }
     }
 
+    #[tactic(auto, unfolding(reference::specs::Acquire::acquire_lost))]
     fn lost(port: Port, hw: u32, left: u32, granted: Flag) -> HoldStep
         ensures { (b : List ℕ) → told_hold port hw b result ≡ acquire_lost (flag_of granted) (acquire_times port hw left) }
     {
@@ -167,6 +171,7 @@ impl Hold {
     }
 
     // release's bits, also where the token could not be given back
+    #[tactic(auto, unfolding(reference::specs::Acquire::release_rest, reference::specs::Hostif::token))]
     fn rest(port: Port, hw: u32, token: Unit) -> HoldStep
         ensures { (b : List ℕ) → told_hold port hw b result ≡ release_rest port hw (unit_of token) }
     {
@@ -177,6 +182,7 @@ impl Hold {
         }
     }
 
+    #[tactic(auto, unfolding(reference::specs::Hostif::token))]
     fn returned(port: Port, hw: u32, token: Unit, step: SyncStep) -> HoldStep
         ensures { (b : List ℕ) → told_hold port hw b result ≡ hold_returned (unit_of token) (told_sync hw step) }
     {
@@ -202,6 +208,7 @@ impl Hold {
     }
 
     // acquire at its first action, which is always a read of SWSM
+    #[tactic(auto, using(hardware::proofs::Laws::times_more), unfolding(reference::specs::Acquire::acquire, reference::specs::Acquire::acquire_ask))]
     pub fn first(port: Port, mask: u32, block: &mut [u32; 16]) -> Hold
         ensures { acquire port mask ≡ ask (Read (regs port.family).swsm) (λ x. resume_hold port (hw_of mask) result block.new x) }
     {
@@ -226,6 +233,7 @@ impl Hold {
         HoldStep::Ask(Action::Read(regs.swsm), state)
     }
 
+    #[tactic(auto, unfolding(reference::specs::Acquire::release))]
     pub fn release(port: Port, mask: u32, block: &mut [u32; 16]) -> HoldStep
         ensures { told_hold port (hw_of mask) block.new result ≡ release port mask }
     {
