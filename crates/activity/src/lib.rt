@@ -48,6 +48,7 @@ impl Activity {
     pub const HEADER: u32 = 0xff00_1405;
 
     // The command's six words.
+    #[tactic(auto, unfolding(reference::specs::Hostif::activity_block))]
     fn put(asked: Asked, port: Port, block: &mut [u32])
         requires { 6 ≤ length block.old }
         ensures { take 6 block.new ≡ block_of port asked }
@@ -88,6 +89,7 @@ impl Activity {
     }
 
     // Also where the reply was short: what was sent is then still there.
+    #[tactic(auto, unfolding(reference::specs::Hostif::activity_words))]
     fn found(block: &[u32], words: usize) -> Words
         ensures { activity_words (take words block.now) ≡ result }
     {
@@ -123,6 +125,7 @@ impl Activity {
     }
 
     // Its six words are put, and it stands at its first job, the command of six words.
+    #[tactic(auto, unfolding(reference::specs::Hostif::phy_activity))]
     pub fn first(asked: Asked, port: Port, block: &mut [u32; 16]) -> Activity
         ensures { begun_activity port asked block.new result ≡ activity_of port asked }
     {
@@ -130,6 +133,7 @@ impl Activity {
         Activity::Exchanging(49)
     }
 
+    #[tactic(auto, unfolding(reference::specs::Hostif::phy_activity))]
     pub fn start(asked: Asked, port: Port, block: &mut [u32; 16]) -> ActivityStep
         ensures { told_activity port asked block.new result ≡ activity_of port asked }
     {

@@ -60,6 +60,7 @@ impl Change {
 
 impl KrModify {
     // The job that it begins with, as Reading.
+    #[tactic(auto, unfolding(reference::specs::X552::kr_modify))]
     pub fn first(change: Change, port: Port) -> Job
         ensures { (b : List ℕ) → begun_modify port change b result ≡ modify_of port change }
     {

@@ -62,12 +62,14 @@ fn bit(mask: u32, on: bool) -> u32
 }
 
 impl KrPlace {
+    #[tactic(auto, unfolding(reference::specs::X552::kr_autoneg_set))]
     fn advertised(kr: bool, kx: bool) -> u32
         ensures { kr_autoneg_set kr kx ≡ result }
     {
         0x2000_0000 | bit(0x4_0000, kr) | bit(0x1_0000, kx)
     }
 
+    #[tactic(auto, unfolding(reference::specs::X552::ixfi_set))]
     fn forced(ten: bool) -> u32
         ensures { ixfi_set ten ≡ result }
     {

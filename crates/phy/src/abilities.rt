@@ -4,6 +4,7 @@ ghost use Rattle.reference.specs.Mdio.{speeds_of};
 
 use answers::Speeds;
 
+#[tactic(auto, unfolding(reference::specs::Mdio::speeds_of))]
 pub fn speeds_of(v: u32) -> Speeds
     ensures { speeds_of v ≡ result }
 {

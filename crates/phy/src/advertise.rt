@@ -49,6 +49,7 @@ pub enum AdvertiseStep {
     Done(Flag),
 }
 
+#[tactic(auto, unfolding(reference::specs::Mdio::bit))]
 fn bit(mask: u16, on: bool) -> u16
     ensures { bit mask on ≡ result }
 {
@@ -56,6 +57,7 @@ fn bit(mask: u16, on: bool) -> u16
 }
 
 impl MaybeFlag {
+    #[tactic(auto, unfolding(reference::specs::Mdio::nbase_keep))]
     fn keep(self) -> u16
         ensures { nbase_keep (maybe_of self) ≡ result }
     {
@@ -65,6 +67,7 @@ impl MaybeFlag {
         }
     }
 
+    #[tactic(auto, unfolding(reference::specs::Mdio::nbase_set))]
     fn set(self, g1: bool) -> u16
         ensures { nbase_set (maybe_of self) g1 ≡ result }
     {
@@ -146,6 +149,7 @@ impl Advertise {
         }
     }
 
+    #[tactic(auto, unfolding(reference::specs::Mdio::advertise))]
     pub fn start(asked: Advertised, port: Port) -> AdvertiseStep
         ensures { (b : List ℕ) → told_advertise port asked b result ≡ advertise_of port asked }
     {

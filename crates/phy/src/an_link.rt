@@ -23,6 +23,7 @@ pub enum AnLinkStep {
 }
 
 impl AnLink {
+    #[tactic(auto, unfolding(reference::specs::Mdio::an_link))]
     pub fn start(phy: u32, port: Port) -> AnLinkStep
         ensures { (b : List ℕ) → told_an_link port phy b result ≡ an_link port phy }
     {

@@ -72,6 +72,7 @@ impl Clock {
         }
     }
 
+    #[tactic(auto, unfolding(reference::specs::X552::mdcspd))]
     fn set(fast: bool, hlreg0: u32) -> u32
         ensures { mdcspd fast hlreg0 ≡ result }
     {

@@ -43,6 +43,7 @@ impl Register {
 
 impl Modify {
     // The job that it begins with, as Reading.
+    #[tactic(auto, unfolding(reference::specs::Mdio::modify))]
     pub fn first(at: Register, port: Port) -> Job
         ensures { (b : List ℕ) → begun_modify port at b result ≡ modify_of port at }
     {

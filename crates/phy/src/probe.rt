@@ -31,6 +31,7 @@ pub enum ProbeStep {
 
 impl Probe {
     // The job that it begins with, as High.
+    #[tactic(auto, unfolding(reference::specs::Mdio::probe))]
     pub fn first(phy: u32, port: Port) -> Job
         ensures { (b : List ℕ) → begun_probe port phy b result ≡ probe port phy }
     {

@@ -74,6 +74,7 @@ impl Reset {
         }
     }
 
+    #[tactic(auto, unfolding(reference::specs::Mdio::reset))]
     pub fn start(phy: u32, x557: bool, port: Port) -> ResetStep
         ensures { (b : List ℕ) → told_reset port phy x557 b result ≡ reset port phy x557 }
     {

@@ -64,6 +64,7 @@ impl Scan {
         }
     }
 
+    #[tactic(auto, unfolding(reference::specs::Mdio::scan))]
     pub fn start(port: Port) -> ScanStep
         ensures { (b : List ℕ) → told_scan port b result ≡ scan port }
     {

@@ -1,0 +1,7 @@
+use mathlib.Core.Path.{sym}
+use Rattle.hardware.proofs.Laws.{then_assoc}
+use borrow.Author.Rules.{rules}
+use Rattle.kr.proofs.sequence.Sequence.begin.Goals as goal
+
+pub returns : goal.returns
+returns c = λ b. simp (c.change.ensures, sym (c.first-job.ensures b), then_assoc)

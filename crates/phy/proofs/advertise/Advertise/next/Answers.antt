@@ -1,0 +1,6 @@
+use Rattle.hardware.proofs.Laws.{then_assoc}
+use borrow.Author.Rules.{rules}
+use Rattle.phy.proofs.advertise.Advertise.next.Goals as goal
+
+pub returns : goal.returns
+returns c = λ b. simp (c.register.ensures, c.next-step.ensures, c.after_modify.ensures, then_assoc)

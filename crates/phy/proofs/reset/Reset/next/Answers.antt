@@ -1,0 +1,6 @@
+use Rattle.hardware.proofs.Laws.{then_assoc}
+use borrow.Author.Rules.{rules}
+use Rattle.phy.proofs.reset.Reset.next.Goals as goal
+
+pub returns-in-Settling : goal.returns-in-Settling
+returns-in-Settling c = λ b. simp (c.in-Ok.is, c.in-Settling.is, then_assoc)
