@@ -1,4 +1,3 @@
-use borrow.Author.Rules.{rules}
 use Rattle.hardware.proofs.Laws.{then_assoc}
 use Rattle.reference.specs.X552.{kr_modify}
 use Rattle.kr.proofs.modify.KrModify.first.Goals as goal

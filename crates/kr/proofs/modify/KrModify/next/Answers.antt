@@ -1,6 +1,4 @@
-use borrow.Author.Rules.{rules}
 use Rattle.hardware.specs.Talk.{return}
-use Rattle.words.specs.Kr.{krm}
 use Rattle.reference.specs.Mdio.{changed}
 use Rattle.reference.specs.X552.{kr_write}
 use Rattle.access.proofs.Laws.{wrote}

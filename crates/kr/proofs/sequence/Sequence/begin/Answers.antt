@@ -1,6 +1,5 @@
 use mathlib.Core.Path.{sym}
 use Rattle.hardware.proofs.Laws.{then_assoc}
-use borrow.Author.Rules.{rules}
 use Rattle.kr.proofs.sequence.Sequence.begin.Goals as goal
 
 pub returns : goal.returns

@@ -1,4 +1,3 @@
-use borrow.Author.Rules.{rules}
 use Rattle.kr.proofs.sequence.Sequence.next.Goals as goal
 
 pub returns : goal.returns

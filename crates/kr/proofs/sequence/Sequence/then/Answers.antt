@@ -1,5 +1,4 @@
 use Rattle.kr.proofs.Laws.{restart_first}
-use borrow.Author.Rules.{rules}
 use Rattle.kr.proofs.sequence.Sequence.then.Goals as goal
 
 pub returns-in-X552 : goal.returns-in-X552

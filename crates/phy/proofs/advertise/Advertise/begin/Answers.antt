@@ -1,6 +1,5 @@
 use Rattle.hardware.proofs.Laws.{then_assoc}
 use mathlib.Core.Path.{sym}
-use borrow.Author.Rules.{rules}
 use Rattle.phy.proofs.advertise.Advertise.begin.Goals as goal
 
 pub returns : goal.returns

@@ -1,5 +1,4 @@
 use Rattle.hardware.proofs.Laws.{then_assoc}
-use borrow.Author.Rules.{rules}
 use Rattle.phy.proofs.advertise.Advertise.next.Goals as goal
 
 pub returns : goal.returns

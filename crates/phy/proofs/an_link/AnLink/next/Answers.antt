@@ -1,5 +1,4 @@
 use Rattle.hardware.proofs.Laws.{then_assoc}
-use borrow.Author.Rules.{rules}
 use Rattle.phy.proofs.an_link.AnLink.next.Goals as goal
 
 pub returns-in-First : goal.returns-in-First

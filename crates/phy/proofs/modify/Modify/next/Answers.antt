@@ -1,5 +1,3 @@
-use borrow.Author.Rules.{rules}
-use mir.Facts.{Fits-or, Fits-and_r}
 use Rattle.hardware.specs.Talk.{return}
 use Rattle.reference.specs.Mdio.{write_reg, changed}
 use Rattle.access.proofs.Laws.{wrote}

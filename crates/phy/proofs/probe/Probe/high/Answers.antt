@@ -1,5 +1,5 @@
 use Rattle.hardware.proofs.Laws.{then_assoc}
-use borrow.Author.Tests.{eq-eqb, ne_eqb}
+use borrow.Author.Tests.{ne_eqb}
 use Rattle.phy.proofs.probe.Probe.high.Goals as goal
 
 pub returns : goal.returns

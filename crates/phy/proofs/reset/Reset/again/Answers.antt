@@ -1,4 +1,3 @@
-use borrow.Author.Rules.{rules}
 use Rattle.hardware.proofs.Laws.{then_assoc, times_more, times_none}
 use Rattle.phy.proofs.reset.Reset.again.Goals as goal
 

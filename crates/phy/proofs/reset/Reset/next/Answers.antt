@@ -1,5 +1,4 @@
 use Rattle.hardware.proofs.Laws.{then_assoc}
-use borrow.Author.Rules.{rules}
 use Rattle.phy.proofs.reset.Reset.next.Goals as goal
 
 pub returns-in-Settling : goal.returns-in-Settling

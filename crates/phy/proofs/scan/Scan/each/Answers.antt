@@ -1,5 +1,4 @@
 use mathlib.Core.Path.{sym}
-use borrow.Author.Rules.{rules}
 use Rattle.hardware.proofs.Laws.{each_more, each_none, then_assoc}
 use Rattle.phy.proofs.scan.Scan.each.Goals as goal
 
