@@ -54,8 +54,8 @@ use Rattle.reference.specs.Sync.{
   held_given,
 }
 use Rattle.reference.specs.X552.{iosf_idle, iosf_check, kr_read_body, kr_write_body, kr_read, kr_write}
-use Rattle.mixing.specs.Alone.{Whole, whole, WholeAndAlone}
-use Rattle.mixing.specs.Model.{Side, Chip, with_selected, with_kr, put, ctrl_word}
+use Rattle.mixing.specs.Alone.{Whole, calm, whole, WholeAndAlone}
+use Rattle.mixing.specs.Model.{Side, do_action, Chip, with_selected, with_kr, put, ctrl_word}
 use Rattle.mixing.specs.System.{Caller, port_of, reads, writes}
 use Rattle.mixing.proofs.Kr.{bits_only}
 
@@ -64,7 +64,9 @@ whole_then : {A B : Type 0} (f : Family) (p : Side) (will : ℕ → ℕ) (c : Ch
     → whole f p will c (and_then t k) ≡ whole f p (whole f p will c t).left (whole f p will c t).chip (k (whole f p will c t).answer)
 unfolding whole
 whole_then f p will c (end a) k = refl
-whole_then f p will c (ask a g) k = whole_then f p _ _ (g _) k
+whole_then f p will c (ask a g) k =
+    let d = do_action f p (calm (will 0)) c a in
+    whole_then f p (λ i. will (suc i)) d.chip (g d.reply) k
 
 ended : {A : Type 0} (f : Family) (p : Side) (will : ℕ → ℕ) (c : Chip) (x : A) → whole f p will c (end x) ≡ record { answer = x; chip = c; left = will }
 unfolding whole
@@ -222,12 +224,12 @@ locked_alone : (f : Family) (p : Side) (will : ℕ → ℕ) (who : Caller) (c : 
     → ((w : ℕ → ℕ) (c : Chip) → whole f p w c body ≡ record { answer = ok (v c); chip = g c; left = l w })
     → ((c : Chip) → (g c).swsm.value ≡ c.swsm.value) → ((c : Chip) → (g c).sync.value ≡ c.sync.value)
     → Outcome (whole f p will c (locked plain (port_of f who) 6 body)) v g c.kr
-locked_alone f p will who c e d body v g l does swsm-same sync-same =
+locked_alone f p will who c e d body v g l does swsm_same sync_same =
     let port = port_of f who in
     let take = whole f p will c (acquire_bits port 6) in
     let taken = acquires f p will who c e d in
     let give = whole f p (l take.left) (g take.chip) (release_bits port 6) in
-    let given = releases f p (l take.left) who (g take.chip) (swsm-same take.chip ∙ taken.swsm) (sync-same take.chip ∙ taken.sync) in
+    let given = releases f p (l take.left) who (g take.chip) (swsm_same take.chip ∙ taken.swsm) (sync_same take.chip ∙ taken.sync) in
     let goes : whole f p will c (locked plain port 6 body) ≡ record { answer = ok (v take.chip); chip = give.chip; left = give.left } =
     ap (whole f p will c) (sym (bits_only who.pause port body))
     ∙ whole_then f p will c (acquire_bits port 6) (held_taken plain (release_bits port 6) body)

@@ -1,6 +1,6 @@
 -- How conversations heed the errors of acquire_bits and release_bits
 use mathlib.Core.Path.{◌≡◌, refl, sym, ap, ◌∙◌}
-use mathlib.Core.Bool.{Bool, true, false, true≢false}
+use mathlib.Core.Bool.{Bool, false, true≢false}
 use Rattle.hardware.specs.Talk.{Talk, Call, Res, ok, err, end, ask, and_then, or_stop, ◌>>=◌}
 use Rattle.hardware.specs.declared.Family.{Family}
 use Rattle.hardware.proofs.Laws.{then_end, then_assoc}

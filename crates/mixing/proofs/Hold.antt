@@ -285,9 +285,9 @@ module _ {f : Family} {Q : View → Res (Unit {0}) → Type 0} (m : ℕ → Bool
       → ((W₁ : View) (r : Res (Unit {0})) → Now (minus m s) W₁ → Q W₁ r)
       → ((W₁ : View) (e : Error) → Least (minus m s) W₁ → Q W₁ (err e))
       → (W : View) → Now m W → Wp f Q W (release_bits_locked (regs f) s micros)
-  releases s sw micros Own h he W now =
+  releases s sw micros own h he W now =
       wp_then (locks W now.clean
-      (λ W₁ l. wp_attempt (clear_sync W₁ s sw.small (owns l) (λ i p. unmine now l i ∙ or_left _ _ (Own i p))
+      (λ W₁ l. wp_attempt (clear_sync W₁ s sw.small (owns l) (λ i p. unmine now l i ∙ or_left _ _ (own i p))
       (λ d. wp_then (unlocks _ l.smbi (fewer sw d 31 ∙ ap₂ ◌&&◌ (owns l) (ap not sw.top))
       (λ W₃ r u. let then = gave now l s (fewer sw d) u in
       or_stop_lem (λ _. wp_ask tt (λ _ _. wp_end (h W₃ (ok tt) then))) (λ e. h W₃ (err e) then) r)))))

@@ -131,7 +131,7 @@ loc_plain : {A : Type 0} {f : Family} {x : Access} {sel seen : Option ℕ} {t : 
 loc_plain only_end = loc_end refl
 loc_plain {f = f} {x} {sel} {seen} (only_ask {a} {c} o p) =
     let d = plain_action f x sel seen a o in
-    loc_ask d.0 (λ r. subst (λ s. Loc f x (λ s _. s ≡ seen) (sel_next f a sel) (seen_then s seen) (c r)) (sym (d.1 r)) (loc_plain (p r)))
+    loc_ask d.0 (λ r. subst (λ s. Loc f x (λ s _. s ≡ seen) (sel_next f a sel) (seen_then s seen) (c r)) (sym (d.1 r)) (loc_plain {sel = sel_next f a sel} (p r)))
 
 -- ---- the parts of an access
 

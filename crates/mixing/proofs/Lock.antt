@@ -132,13 +132,13 @@ module _ {f : Family} {Q : View → Res (Unit {0}) → Type 0} (W : View) where
 
   pub clear_sync : (b : ℕ) → b < 2 ^ 32 → W.mine 31 ≡ true → ((i : ℕ) → bit i b ≡ true → W.mine i ≡ true)
       → (Found W W.sync → Q (stores W.sync (without W.sync b) W) (ok tt)) → Wp f Q W (clear (regs f).sync b)
-  clear_sync b hb e Own h =
+  clear_sync b hb e own h =
       sync_read_held e
       (λ d n. rw n (sync_write
       (record {
         held = e;
         good = good_without W.sync b hb d.good;
-        drops = λ i p q. Own i (dropped _ _ p (sym (bit_without 32 i W.sync b d.good.small hb) ∙ q));
+        drops = λ i p q. own i (dropped _ _ p (sym (bit_without 32 i W.sync b d.good.small hb) ∙ q));
         raises = λ i p q. and_left _ _ (sym (bit_without 32 i W.sync b d.good.small hb) ∙ q);
       })
       (λ _. wp_end (h d))))

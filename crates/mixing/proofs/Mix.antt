@@ -143,7 +143,7 @@ module _ (f : Family) (t₀ : ℕ → ℕ) where
   out_ok p w s i W se b a c o m (wp_ask n h) =
       let st = action_step f p w s.chip W a i.chip se n in
       moved_ok p s _ s.log _ _ i st.chip st.sees st.others (λ b'. out_kr f p w s.chip a o b' ∙ i.kr b')
-      (settle_ok f t₀ b (m _) _ s.log (h _ st.May) i.right)
+      (settle_ok f t₀ b (m _) _ s.log (h _ st.may) i.right)
 
   in_ok : (p : Side) (w : World) (s : Sys f) → Inv s → (W : View) → Sees p s.chip W
       → (b : Bool) (x : Access) (seen sel : Option ℕ) (a : Action) (c : Reply → Talk (Res (Given x)))
@@ -155,7 +155,7 @@ module _ (f : Family) (t₀ : ℕ → ℕ) where
       let tc = touch_ok t₀ p w s.chip W seen sel s.log sm se i.kr i.right f x a o in
       moved_ok p s _ _ _ _ i st.chip st.sees st.others tc.kr
       (resume_ok f t₀ b x _ (c _) k m (λ r l. settle f b (m r) l) (λ r W' l u v. settle_ok f t₀ b (m r) W' l u v) _ _ (sel_next f a sel)
-      (λ e z. sel_next_lem f W sel a _ e (sm e) z) (g _) (h _ st.May) tc.right)
+      (λ e z. sel_next_lem f W sel a _ e (sm e) z) (g _) (h _ st.may) tc.right)
 
   acts_ok : (p : Side) (w : World) (s : Sys f) → Inv s → (W : View) → Sees p s.chip W → (d : State f) → PortOk f W d → Inv (acts f p w s d)
   unfolding acts

@@ -133,7 +133,7 @@ pub record Sees (p : Side) (c : Chip) (W : View) : Type 0 where
 
 -- what an action does to what is known
 pub record Shared (p : Side) (d : Did) (W' : View) (M : Reply → Type 0) (c : Chip) : Type 0 where
-  pub May : M d.reply
+  pub may : M d.reply
   pub chip : ChipOk d.chip
   pub sees : Sees p d.chip W'
   pub others : (q : Side) (W : View) → Other p q → Sees q c W → Sees q d.chip W
@@ -166,7 +166,7 @@ not_31 : (i : ℕ) → bit i fw_bits ≡ true → bit i (2 ^ 31) ≡ false
 not_31 i h = both_bits i fw_bits (2 ^ 31) refl h
 
 unchanged : {p : Side} {W : View} {M : Reply → Type 0} (c : Chip) (r : Reply) → M r → ChipOk c → Sees p c W → Shared p (record { reply = r; chip = c }) W M c
-unchanged c r m k s = record { May = m; chip = k; sees = s; others = λ q W n t. t }
+unchanged c r m k s = record { may = m; chip = k; sees = s; others = λ q W n t. t }
 
 -- what a port's write stores, where it keeps the rules: all that is used of `stored`
 as_written : (old new : ℕ) → stored old new ≡ new
@@ -181,7 +181,7 @@ swsm_0 : (p : Side) (w : World) (c : Chip) (W : View) → ChipOk (with_sm 0 c) �
     → Shared p (do_read p w (with_sm 0 c) is_swsm) (with_smbi true W) (MayRead W is_swsm) (with_sm 0 c)
 unfolding bit
 swsm_0 p w c W k s = record {
-  May = (inl refl, λ t. absurd (true≢false (sym t ∙ sym s.smbi ∙ nobodys p _ (k.sm_owned 0 refl))));
+  may = (inl refl, λ t. absurd (true≢false (sym t ∙ sym s.smbi ∙ nobodys p _ (k.sm_owned 0 refl))));
   chip = record { sm = inr refl; sm_owned = λ i e. free_after (of_port p) (bit i 0) (bit i 1) (c.swsm.owner i) e; good = k.good; owned = k.owned; fw_only = k.fw_only };
   sees = record { smbi = self p; mine = s.mine; sync = s.sync; sel = s.sel; lock = s.lock };
   others = λ q W' n t. record { smbi = keep_after q (of_port p) n false true (c.swsm.owner 0) (k.sm_owned 0) (λ _. refl) ∙ t.smbi; mine = t.mine; sync = t.sync; sel = t.sel; lock = t.lock };
@@ -203,7 +203,7 @@ swsm_store : (p : Side) (c : Chip) (W : View) → ChipOk c → Sees p c W → W.
     → Shared p (record { reply = reply.Done 0; chip = with_swsm (becomes (of_port p) 0 c.swsm) c }) (with_smbi false W) (MayWrite is_swsm) c
 unfolding bit
 swsm_store p c W k s e = record {
-  May = tt;
+  may = tt;
   chip = record { sm = inl refl; sm_owned = λ i h. free_after (of_port p) (bit i c.swsm.value) (bit i 0) (c.swsm.owner i) h; good = k.good; owned = k.owned; fw_only = k.fw_only };
   sees = record { smbi = refl; mine = s.mine; sync = s.sync; sel = s.sel; lock = s.lock };
   others = λ q W' n t. record {
@@ -229,7 +229,7 @@ sync_store : (p : Side) (c : Chip) (W : View) (v : ℕ) {M : Reply → Type 0} (
     → ((q : Side) → Other p q → is_port q (c.sync.owner 31) ≡ false)
     → Shared p (record { reply = r; chip = with_sync (becomes (of_port p) v c.sync) c }) (stores c.sync.value v W) M c
 sync_store p c W v r m k s g drops raises noword = record {
-  May = m;
+  may = m;
   chip = record {
     sm = k.sm;
     sm_owned = k.sm_owned;
@@ -297,7 +297,7 @@ some_inj a b e = cc
 ctrl_write : (p : Side) (w : World) (c : Chip) (W : View) (v : ℕ) → ChipOk c → Sees p c W → W.mine 1 ≡ true
     → Shared p (do_write p w c v is_ctrl) (with_sel v W) (MayWrite is_ctrl) c
 ctrl_write p w c W v k s m = record {
-  May = tt;
+  may = tt;
   chip = record { sm = k.sm; sm_owned = k.sm_owned; good = k.good; owned = k.owned; fw_only = k.fw_only };
   sees = record { smbi = s.smbi; mine = s.mine; sync = s.sync; sel = λ a e. some_inj v a e; lock = λ a e. m };
   others = λ q W' n t. record {
@@ -324,7 +324,7 @@ write_step p w c W v is_swsm k s n =
 write_step p w c W v is_sync k s n = sync_write p w c W v k s n
 write_step p w c W v is_ctrl k s n = ctrl_write p w c W v k s n
 write_step p w c W v is_data k s n = record {
-  May = tt;
+  may = tt;
   chip = record { sm = k.sm; sm_owned = k.sm_owned; good = k.good; owned = k.owned; fw_only = k.fw_only };
   sees = record { smbi = s.smbi; mine = s.mine; sync = s.sync; sel = s.sel; lock = s.lock };
   others = λ q W' n t. record { smbi = t.smbi; mine = t.mine; sync = t.sync; sel = t.sel; lock = t.lock };

@@ -290,8 +290,8 @@ unfolding acquire_bits release_bits bits
 bits_bracket port mask =
     record {
       takes = λ m W now. acquires m (bits mask) (software_bits mask) (mux port mask) (λ W₁ n z. (n, z)) (λ W₁ e l. l) 1000 0 W now;
-      gives = λ m W now Own.
-          let go = releases m (software mask) (software_bits mask) (settle mask) Own (gave m) (λ W₁ e l. l) W now in
+      gives = λ m W now own.
+          let go = releases m (software mask) (software_bits mask) (settle mask) own (gave m) (λ W₁ e l. l) W now in
           wp_pick (mux port mask) (λ _. wp_then (quiet_wp (quiet_mux port.family false) (or_stop_lem (λ _. go) (λ e. least (λ i p. and_left _ _ p) now)))) (λ _. go);
       take_made = made_plain (plain_acquire port mask);
       give_made = made_plain (plain_release port mask);

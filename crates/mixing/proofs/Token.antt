@@ -173,10 +173,10 @@ module _ (port : Port) (hw : ℕ) (some_bits : eqb hw 0 ≡ false) where
 
   -- ---- `release`
 
-  module _ (m : ℕ → Bool) (Own : (i : ℕ) → bit i s ≡ true → m i ≡ true) where
+  module _ (m : ℕ → Bool) (own : (i : ℕ) → bit i s ≡ true → m i ≡ true) where
     rest : (W : View) → Now m W → Wp f (Gave m s) W (release_rest port hw (ok tt))
     unfolding release_rest
-    rest W now = wp_pick (eqb hw 0) (λ e. absurd (true≢false (sym e ∙ some_bits))) (λ _. wp_then (wp_mono last (bits.gives m W now Own)))
+    rest W now = wp_pick (eqb hw 0) (λ e. absurd (true≢false (sym e ∙ some_bits))) (λ _. wp_then (wp_mono last (bits.gives m W now own)))
       where
         last : (W₁ : View) (r : Res (Unit {0})) → Gave m s W₁ r → Wp f (Gave m s) W₁ (or_stop (λ _. end (ok tt)) r)
         last W₁ (ok _) g = wp_end g
@@ -186,7 +186,7 @@ module _ (port : Port) (hw : ℕ) (some_bits : eqb hw 0 ≡ false) where
     unfolding release_rest
     rest_error e W l =
         wp_pick (eqb hw 0) (λ t. absurd (true≢false (sym t ∙ some_bits)))
-        (λ _. wp_then (wp_mono last (bits.gives W.mine W (here l.clean) (λ i p. l.keeps i (Own i p)))))
+        (λ _. wp_then (wp_mono last (bits.gives W.mine W (here l.clean) (λ i p. l.keeps i (own i p)))))
       where
         kept : (a b c : Bool) → (a ≡ true → b ≡ true) → (a && not c) ≡ true → (b && not c) ≡ true
         kept true b c h e = ap (λ t. t && not c) (h refl) ∙ e
@@ -225,8 +225,8 @@ token_bracket port mask h =
       takes = λ m W now. wp_pick (is_clear mask 0x40000000) (λ _. bits.takes m W now)
           (λ _. by_turns (λ t. (W : View) → Now m W → Wp f (Took m (software hw)) W t) (acquire_turn port hw) (fail (Firmware 0x0a 0x80))
           (λ again. turn port hw h again m) (λ W now. wp_end (least (λ i p. p) now)) 1000 W now);
-      gives = λ m W now Own. wp_pick (is_clear mask 0x40000000) (λ _. rest port hw h m Own W now)
-          (λ _. wp_attempt (wp_mono (tokened port hw h m Own) ((s_token port false).balanced m W now)));
+      gives = λ m W now own. wp_pick (is_clear mask 0x40000000) (λ _. rest port hw h m own W now)
+          (λ _. wp_attempt (wp_mono (tokened port hw h m own) ((s_token port false).balanced m W now)));
       take_made = made_pick (is_clear mask 0x40000000) bits.take_made
           (by_turns (Made f) (acquire_turn port hw) (fail (Firmware 0x0a 0x80)) (made_turn port hw h) (done _) 1000);
       give_made = made_pick (is_clear mask 0x40000000) (made_rest port hw h (ok tt))
