@@ -19,6 +19,7 @@ pub struct Held {
 }
 
 // All words of a conversation.
+#[tactic(auto, unfolding(crate::specs::Held::words_of, crate::specs::Held::conversation_of, packed_access::specs::Tape::word_at))]
 fn put_conversation(tape: &mut [u32; 65], c: Conversation)
     ensures { (length tape.old ≡ 65 → tape.new ≡ words_of c) × (conversation_of (words_of c) c.block ≡ c) }
 {
@@ -33,6 +34,7 @@ fn put_conversation(tape: &mut [u32; 65], c: Conversation)
     put_place(tape, at, place);
 }
 
+#[tactic(auto, unfolding(crate::specs::Held::conversation_of))]
 fn get_conversation(words: &[u32], block: [u32; 16]) -> Conversation
     ensures { result ≡ conversation_of words.now block }
 {
@@ -66,6 +68,7 @@ fn same_words(a: &[u32], b: &[u32]) -> bool
     true
 }
 
+#[tactic(auto, unfolding(crate::specs::Held::held_by, crate::specs::Held::is_held))]
 pub fn hold(c: Conversation) -> Held
     ensures { (held_by result ≡ c) × (is_held result ≡ true) }
 {
@@ -75,6 +78,7 @@ pub fn hold(c: Conversation) -> Held
     Held { words, block }
 }
 
+#[tactic(auto, unfolding(crate::specs::Held::held_by))]
 pub fn read_held(h: Held) -> Conversation
     ensures { result ≡ held_by h }
 {
@@ -84,6 +88,7 @@ pub fn read_held(h: Held) -> Conversation
 }
 
 // Whether the words are those of the conversation that they are read as. No others are ever given to the caller.
+#[tactic(auto, unfolding(crate::specs::Held::is_held))]
 pub fn is_held(h: Held) -> bool
     ensures { is_held h ≡ result }
 {

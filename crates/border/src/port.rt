@@ -6,6 +6,7 @@ use hardware::{Family, Port};
 use lines::port::PortLine;
 
 // The family is 552 or 553. A device above 65535 is none; a lan above 1 is refused by `begin`.
+#[tactic(auto, unfolding(crate::specs::Port::port_of))]
 pub fn port_of(family: u32, device: u32, lan: u32) -> PortLine
     ensures { result ≡ port_of family device lan }
 {

@@ -134,6 +134,7 @@ impl Bringup {
         }
     }
 
+    #[tactic(auto, unfolding(reference::specs::X552::kr_autoneg))]
     fn lane(veto: bool, port: Port, lane: Lane) -> BringupStep
         ensures { (b : List ℕ) → told_bringup port veto b result ≡ lane_talk port lane }
     {
@@ -218,6 +219,7 @@ impl Bringup {
         }
     }
 
+    #[tactic(auto, unfolding(reference::specs::X552::prepare_copper))]
     fn copper(veto: bool, port: Port) -> BringupStep
         ensures { (b : List ℕ) → told_bringup port veto b result ≡ copper_then port veto (prepare_copper port veto) }
     {
@@ -253,6 +255,7 @@ impl Bringup {
         }
     }
 
+    #[tactic(auto, unfolding(reference::specs::X553::prepare_firmware))]
     fn firmware(veto: bool, port: Port, block: &mut [u32; 16]) -> BringupStep
         ensures { told_bringup port veto block.new result ≡ firmware_then port veto (prepare_firmware port veto) }
     {
@@ -334,6 +337,7 @@ impl Bringup {
         }
     }
 
+    #[tactic(auto, unfolding(reference::specs::Operations::bringup))]
     pub fn start(veto: bool, port: Port, block: &mut [u32; 16]) -> BringupStep
         ensures { told_bringup port veto block.new result ≡ bringup 10 port veto }
     {

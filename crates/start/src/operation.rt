@@ -55,6 +55,7 @@ pub enum Operation {
 
 impl Operation {
     // The PHY address among its arguments, 0 where it has none.
+    #[tactic(auto, unfolding(crate::specs::Operation::phy_of))]
     pub fn phy(self) -> u32
         ensures { phy_of self ≡ result }
     {
@@ -88,6 +89,7 @@ impl Operation {
     }
 
     // The MDIO device address among its arguments, 0 where it has none.
+    #[tactic(auto, unfolding(crate::specs::Operation::device_of))]
     pub fn device(self) -> u32
         ensures { device_of self ≡ result }
     {

@@ -144,6 +144,7 @@ fn kr_modify(port: Port, change: Change) -> AfterStep
     Kr::modify(port, change, step)
 }
 
+#[tactic(auto, unfolding(reference::specs::X552::restart_an))]
 fn restart_an(port: Port) -> AfterStep
     ensures { (b : List ℕ) → told_after port b result ≡ ops.operation port ops.RestartAn }
 {
@@ -151,6 +152,7 @@ fn restart_an(port: Port) -> AfterStep
     Kr::sequence(port, step)
 }
 
+#[tactic(auto, unfolding(reference::specs::X552::kr_autoneg))]
 fn kr_autoneg(port: Port, kr: bool, kx: bool) -> AfterStep
     ensures { (b : List ℕ) → told_after port b result ≡ ops.operation port (ops.KrAutoneg kr kx) }
 {

@@ -66,6 +66,7 @@ fn nvm_word(args: &[u32]) -> OperationLine
     OperationLine::Is(Operation::NvmWord(args[0] as u16), 0)
 }
 
+#[tactic(auto, unfolding(crate::specs::Kr::rest_name))]
 fn rest_named(name: &[u8], args: &[u32]) -> OperationLine
     ensures { rest_name name.now args.now ≡ result }
 {
@@ -78,6 +79,7 @@ fn rest_named(name: &[u8], args: &[u32]) -> OperationLine
     setup_named(name, args)
 }
 
+#[tactic(auto, unfolding(crate::specs::Kr::kr_name))]
 pub fn kr_named(name: &[u8], args: &[u32]) -> OperationLine
     ensures { kr_name name.now args.now ≡ result }
 {

@@ -73,6 +73,7 @@ fn phy_activity(args: &[u32]) -> OperationLine
     OperationLine::Is(Operation::PhyActivity(asked), 0)
 }
 
+#[tactic(auto, unfolding(crate::specs::Operation::hostif_name))]
 fn hostif_named(name: &[u8], args: &[u32]) -> OperationLine
     ensures { hostif_name name.now args.now ≡ result }
 {
@@ -88,6 +89,7 @@ fn hostif_named(name: &[u8], args: &[u32]) -> OperationLine
     mdio_named(name, args)
 }
 
+#[tactic(auto, unfolding(crate::specs::Operation::by_name))]
 pub fn named(name: &[u8], args: &[u32]) -> OperationLine
     ensures { by_name name.now args.now ≡ result }
 {

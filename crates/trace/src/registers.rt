@@ -186,6 +186,7 @@ fn an_link(args: &[u32]) -> OperationLine
     OperationLine::Is(Operation::AnLink(args[0]), 0)
 }
 
+#[tactic(auto, unfolding(crate::specs::Mdio::phy_name))]
 fn phy_named(name: &[u8], args: &[u32]) -> OperationLine
     ensures { phy_name name.now args.now ≡ result }
 {
@@ -204,6 +205,7 @@ fn phy_named(name: &[u8], args: &[u32]) -> OperationLine
     kr_named(name, args)
 }
 
+#[tactic(auto, unfolding(crate::specs::Mdio::mdio_name))]
 pub fn mdio_named(name: &[u8], args: &[u32]) -> OperationLine
     ensures { mdio_name name.now args.now ≡ result }
 {

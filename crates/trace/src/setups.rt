@@ -82,6 +82,7 @@ fn poll(args: &[u32]) -> OperationLine
     OperationLine::Bad
 }
 
+#[tactic(auto, unfolding(crate::specs::Setups::setup_name))]
 pub fn setup_named(name: &[u8], args: &[u32]) -> OperationLine
     ensures { setup_name name.now args.now ≡ result }
 {

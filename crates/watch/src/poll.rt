@@ -51,6 +51,7 @@ pub enum PollStep {
 }
 
 // Whether the internal link was forced for this status.
+#[tactic(auto, unfolding(reference::specs::Watch::is_forced))]
 fn is_forced(forced: MaybeStatus, status: u16) -> bool
     ensures { is_forced forced status ≡ result }
 {
@@ -108,6 +109,7 @@ impl Poll {
         }
     }
 
+    #[tactic(auto, unfolding(reference::specs::X552::kr_autoneg, reference::specs::X552::ixfi))]
     fn force(watch: Watch, port: Port, status: u16, megabits: u32) -> PollStep
         ensures { (b : List ℕ) → told_poll port watch b result ≡ force_of port watch status megabits }
     {
@@ -189,6 +191,7 @@ impl Poll {
         }
     }
 
+    #[tactic(auto, unfolding(reference::specs::Watch::poll))]
     pub fn start(watch: Watch, port: Port) -> PollStep
         ensures { (b : List ℕ) → told_poll port watch b result ≡ poll_of port watch }
     {

@@ -60,6 +60,7 @@ pub struct Copper {
 }
 
 // 100M is not advertised.
+#[tactic(auto, unfolding(reference::specs::X552::without100))]
 fn without_100(s: Speeds) -> Speeds
     ensures { without100 s ≡ result }
 {
@@ -165,6 +166,7 @@ impl CopperLink {
         }
     }
 
+    #[tactic(auto, unfolding(reference::specs::X552::ixfi))]
     fn able(c: Copper, port: Port, speeds: Speeds) -> LinkStep
         ensures { (b : List ℕ) → told_link port c b result ≡ copper_able 10 port c.veto c.x557 speeds }
     {

@@ -81,6 +81,7 @@ impl Phy {
         ((sel >> 3) % 32) as u8
     }
 
+    #[tactic(auto, unfolding(reference::specs::X552::internal_of))]
     fn internal(family: Family, sel: u32) -> Internal
         ensures { internal_of family sel ≡ result }
     {
@@ -96,6 +97,7 @@ impl Phy {
         }
     }
 
+    #[tactic(auto, unfolding(reference::specs::X552::prepared_copper))]
     fn prepared(self, port: Port, unstalled: bool, reset: bool) -> X557
         ensures { prepared_of port self unstalled reset ≡ result }
     {
@@ -265,6 +267,7 @@ impl PrepareCopper {
         }
     }
 
+    #[tactic(auto, unfolding(reference::specs::X552::prepare_copper))]
     pub fn start(veto: bool, port: Port) -> PrepareStep
         ensures { (b : List ℕ) → told_prepare port veto b result ≡ prepare_copper port veto }
     {

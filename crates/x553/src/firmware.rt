@@ -191,6 +191,7 @@ impl SetupFirmware {
     }
 
     // One that is down already is not set up again.
+    #[tactic(auto, unfolding(reference::specs::X553::setup_firmware))]
     fn free(port: Port, phy: FirmwarePhy, down: bool, block: &mut [u32; 16]) -> FirmwareStep
         ensures { told_firmware port block.new result ≡ setup_firmware 10 port phy down }
     {

@@ -84,6 +84,7 @@ pub fn begin(activity: u16, word: u32, port: Port, block: &mut [u32; 16]) -> Act
 }
 
 // GET_PHY_INFO's answer.
+#[tactic(auto, unfolding(reference::specs::X553::phy_info))]
 fn phy_info(info: Words) -> FirmwarePhy
     ensures { phy_info info ≡ result }
 {
@@ -222,6 +223,7 @@ impl PrepareFirmware {
         }
     }
 
+    #[tactic(auto, unfolding(reference::specs::X553::prepare_firmware))]
     pub fn start(veto: bool, port: Port, block: &mut [u32; 16]) -> PrepareStep
         ensures { told_prepare port veto block.new result ≡ prepare_firmware port veto }
     {

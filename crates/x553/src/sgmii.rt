@@ -65,6 +65,7 @@ impl Sgmii {
         }
     }
 
+    #[tactic(auto, unfolding(reference::specs::X552::restart_an))]
     fn after_lane(port: Port, lc1: u32, sgmii: u32, step: KrModifyStep) -> SgmiiStep
         ensures { (b : List ℕ) → told_sgmii port b result ≡ lane_then port lc1 sgmii (told_modify port lane_of b step) }
     {
@@ -115,6 +116,7 @@ impl Sgmii {
         }
     }
 
+    #[tactic(auto, unfolding(reference::specs::X553::sgmii))]
     pub fn start(port: Port) -> SgmiiStep
         ensures { (b : List ℕ) → told_sgmii port b result ≡ sgmii 10 port }
     {

@@ -62,6 +62,7 @@ impl SgmiiAn {
         }
     }
 
+    #[tactic(auto, unfolding(reference::specs::X552::restart_an))]
     fn after_lane(port: Port, step: KrModifyStep) -> SgmiiAnStep
         ensures { (b : List ℕ) → told_sgmii_an port b result ≡ lane_then port (told_modify port lane_of b step) }
     {
@@ -119,6 +120,7 @@ impl SgmiiAn {
         }
     }
 
+    #[tactic(auto, unfolding(reference::specs::X553::sgmii_an))]
     pub fn start(port: Port) -> SgmiiAnStep
         ensures { (b : List ℕ) → told_sgmii_an port b result ≡ sgmii_an 10 port }
     {
