@@ -8,8 +8,8 @@ use Rattle.conversation.specs.Conversation.{Conv}
 use Rattle.conversation.specs.Run.{Shown, shown_of, left}
 use Rattle.conversation.specs.declared.run.Ran.{Ran}
 use Rattle.conversation.proofs.Theorems.{Placed, placed}
-use Rattle.lines.specs.Listing.{Added, action_text}
-use Rattle.console.specs.Turn.{lines_text, ran_three, Turn}
+use Rattle.lines.specs.Listing.{Added, action_text, lines_text}
+use Rattle.console.specs.Turn.{ran_three, Turn}
 use Rattle.lines.proofs.ListingLaws.{added_none}
 
 three : (l : List ℕ) → length l ≡ 3 → lines_text (take 3 l) ≡ action_text (get_or l 0 0) (get_or l 1 0) (get_or l 2 0)

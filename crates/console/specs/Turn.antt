@@ -1,16 +1,9 @@
 -- A run into a transcript of three words, and the lines of what it wrote there
-use Rattle.std.specs.Prelude.{ℕ, ◌≡◌, List, [], ◌∷◌, ◌++◌, take}
+use Rattle.std.specs.Prelude.{ℕ, ◌≡◌, List, [], ◌∷◌, take}
 use Rattle.conversation.specs.Conversation.{Conv, conv_of}
 use Rattle.conversation.specs.Run.{Shown, left, run_all}
-use Rattle.lines.specs.Listing.{Added, action_text}
+use Rattle.lines.specs.Listing.{Added, lines_text}
 use Rattle.console.specs.declared.turn.Turned.{Turned}
-
--- a transcript's lines: three words an action
-abbrev pub lines_text : List ℕ → List ℕ
-lines_text [] = []
-lines_text (kind ∷ []) = []
-lines_text (kind ∷ register ∷ []) = []
-lines_text (kind ∷ register ∷ value ∷ ws) = action_text kind register value ++ lines_text ws
 
 abbrev pub ran_three : Conv → List ℕ → Shown
 ran_three c rs = run_all c rs (0 ∷ 0 ∷ 0 ∷ []) 0

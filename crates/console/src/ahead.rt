@@ -1,6 +1,8 @@
 // The replies that are in the buffer already, in one run. One action at a time would do; this is faster.
 use conversation::conversation::Conversation;
 use conversation::run::run;
+use std::io;
+use std::io::Write;
 use streams::batch::{behind_used, first, print_lines, read_ahead};
 use streams::input::Input;
 
@@ -12,7 +14,7 @@ pub struct Moved {
     pub n: usize,
 }
 
-pub fn ahead(from: Moved, buf: &[u8], out: &mut [u8]) -> Moved {
+pub fn ahead<W: Write>(from: Moved, buf: &[u8], sink: &mut W, out: &mut [u8]) -> io::Result<Moved> {
     let mut words = [0u32; 128];
     let mut behind = [0usize; 64];
     let mut t = [0u32; 384];
@@ -21,9 +23,9 @@ pub fn ahead(from: Moved, buf: &[u8], out: &mut [u8]) -> Moved {
     let c = from.to;
     let ran = run(c, first(&words, count), &mut t, 0);
     let to = ran.to;
-    Moved {
+    Ok(Moved {
         to,
         input: behind_used(input, &behind, ran.used),
-        n: print_lines(&t, ran.at, out, from.n),
-    }
+        n: print_lines(&t, ran.at, sink, out, from.n)?,
+    })
 }

@@ -2,36 +2,45 @@
 use answers::Answer;
 use conversation::conversation::Conversation;
 use hardware::Unit;
+use std::io;
+use std::io::Write;
 use streams::ending::{last, print_left};
 
 // The host block as an ended `command` leaves it, after errors too. The listing has it after `end ok` alone.
-fn left(c: Conversation, words: usize, out: &mut [u8], n: usize) -> usize {
+fn left<W: Write>(
+    c: Conversation,
+    words: usize,
+    sink: &mut W,
+    out: &mut [u8],
+    n: usize,
+) -> io::Result<usize> {
     if words == 0 {
-        return n;
+        return Ok(n);
     }
     if words > 16 {
-        return n;
+        return Ok(n);
     }
     let mut host = [0u32; 16];
     if let Unit::Err(_) = c.hand_back(&mut host[0..words]) {
-        return n;
+        return Ok(n);
     }
-    print_left(host, words as u32, out, n)
+    print_left(host, words as u32, sink, out, n)
 }
 
 // The last line, and the host block's where it is asked for.
-pub fn ended(
+pub fn ended<W: Write>(
     answer: Answer,
     words: usize,
     c: Conversation,
     asked: bool,
+    sink: &mut W,
     out: &mut [u8],
     n: usize,
-) -> usize {
+) -> io::Result<usize> {
     let block = c.block;
-    let end = last(answer, block, c.actions, c.micros, out, n);
+    let end = last(answer, block, c.actions, c.micros, sink, out, n)?;
     if asked {
-        return left(c, words, out, end);
+        return left(c, words, sink, out, end);
     }
-    end
+    Ok(end)
 }

@@ -1,4 +1,4 @@
-// A conversation over standard input and standard output: its lines are read, and its listing is printed.
+// A conversation over a reader and a writer: its lines are read, and its listing is printed.
 #![tactic(auto)]
 
 pub mod ahead;

@@ -8,6 +8,8 @@ use conversation::conversation::Conversation;
 use hardware::Port;
 use lines::port::{PortLine, port_line};
 use start::operation::Operation;
+use std::io;
+use std::io::{Read, Write};
 use streams::due::BAD_LINE;
 use streams::ending::stop;
 use streams::input::{Input, fetch};
@@ -26,39 +28,49 @@ fn begin(port: Port, what: Operation, args: &[u32], words: usize) -> Conversatio
 }
 
 // 25 where a line was missing or cannot be read.
-fn opened(
+fn opened<R: Read, W: Write>(
     port: PortLine,
     what: OperationLine,
     args: &[u32; 17],
+    source: &mut R,
     buf: &mut [u8],
     input: Input,
+    sink: &mut W,
     out: &mut [u8],
     n: usize,
     asked: bool,
-) -> Listed {
+) -> io::Result<Listed> {
     let PortLine::Is(p) = port else {
-        let end = stop(BAD_LINE, 0, 0, out, n);
-        return Listed { input, n: end };
+        let end = stop(BAD_LINE, 0, 0, sink, out, n)?;
+        return Ok(Listed { input, n: end });
     };
     let OperationLine::Is(operation, words) = what else {
-        let end = stop(BAD_LINE, 0, 0, out, n);
-        return Listed { input, n: end };
+        let end = stop(BAD_LINE, 0, 0, sink, out, n)?;
+        return Ok(Listed { input, n: end });
     };
     let to = begin(p, operation, args, words);
-    talk(Moved { to, input, n }, buf, out, asked)
+    talk(Moved { to, input, n }, source, buf, sink, out, asked)
 }
 
 // The listing of one input, behind the n bytes that wait in `out`. Both lines are read before anything else. Where it is
 // asked for, a line with the host block that a `command` leaves follows.
-pub fn listing(buf: &mut [u8], input: Input, out: &mut [u8], n: usize, asked: bool) -> Listed {
+pub fn listing<R: Read, W: Write>(
+    source: &mut R,
+    buf: &mut [u8],
+    input: Input,
+    sink: &mut W,
+    out: &mut [u8],
+    n: usize,
+    asked: bool,
+) -> io::Result<Listed> {
     let mut args = [0u32; 17];
-    let first = fetch(buf, input);
+    let first = fetch(source, buf, input);
     let next = first.next;
     let rest = first.input;
     let port = port_line(line_of(buf, next));
-    let second = fetch(buf, rest);
+    let second = fetch(source, buf, rest);
     let next = second.next;
     let rest = second.input;
     let what = operation_line(line_of(buf, next), &mut args);
-    opened(port, what, &args, buf, rest, out, n, asked)
+    opened(port, what, &args, source, buf, rest, sink, out, n, asked)
 }

@@ -4,6 +4,8 @@ use crate::ending::ended;
 use crate::turn::turn;
 use conversation::conversation::Conversation;
 use started::operation::Place;
+use std::io;
+use std::io::{Read, Write};
 use streams::due::{Due, answer};
 use streams::ending::stop;
 use streams::input::Input;
@@ -35,65 +37,85 @@ fn pair_of(due: Due) -> [u32; 2] {
 }
 
 // One action is done, and its line printed.
-fn act(c: Conversation, input: Input, pair: [u32; 2], out: &mut [u8], n: usize) -> Moved {
+fn act<W: Write>(
+    c: Conversation,
+    input: Input,
+    pair: [u32; 2],
+    sink: &mut W,
+    out: &mut [u8],
+    n: usize,
+) -> io::Result<Moved> {
     let mut line = [0u8; 512];
     let t = turn(c, &pair, &mut line);
     let to = t.to;
-    Moved {
+    Ok(Moved {
         to,
         input,
-        n: print(out, n, &line, t.len),
-    }
+        n: print(sink, out, n, &line, t.len)?,
+    })
 }
 
 // One action, whose reply is fetched; then what the replies in the buffer answer.
-fn onward(from: Moved, buf: &mut [u8], out: &mut [u8]) -> Came {
-    let c = from.to;
-    let place = c.place;
+fn onward<R: Read, W: Write>(
+    from: Moved,
+    source: &mut R,
+    buf: &mut [u8],
+    sink: &mut W,
+    out: &mut [u8],
+) -> io::Result<Came> {
+    let place = from.to.place;
     let Place::Asks(a, _) = place else {
-        return Came {
+        return Ok(Came {
             moved: from,
             number: AFTER_END,
-        };
+        });
     };
-    let d = answer(a, buf, from.input);
+    let d = answer(a, source, buf, from.input);
     let due = d.due;
     let input = d.input;
+    let c = from.to;
     if let Due::Stop(number) = due {
         let moved = Moved {
             to: c,
             input,
             n: from.n,
         };
-        return Came { moved, number };
+        return Ok(Came { moved, number });
     }
-    let one = act(c, input, pair_of(due), out, from.n);
-    Came {
-        moved: ahead(one, buf, out),
+    let one = act(c, input, pair_of(due), sink, out, from.n)?;
+    Ok(Came {
+        moved: ahead(one, buf, sink, out)?,
         number: 0,
-    }
+    })
 }
 
 // The last lines.
-fn finish(at: Came, out: &mut [u8], asked: bool) -> Listed {
+fn finish<W: Write>(at: Came, sink: &mut W, out: &mut [u8], asked: bool) -> io::Result<Listed> {
     let m = at.moved;
     let c = m.to;
     let input = m.input;
     let place = c.place;
-    match place {
+    Ok(match place {
         Place::Ended(answer, words) => Listed {
             input,
-            n: ended(answer, words, c, asked, out, m.n),
+            n: ended(answer, words, c, asked, sink, out, m.n)?,
         },
         Place::Asks(_, _) => Listed {
             input,
-            n: stop(at.number, c.actions, c.micros, out, m.n),
+            n: stop(at.number, c.actions, c.micros, sink, out, m.n)?,
         },
-    }
+    })
 }
 
 // No conversation is as long as the turns that are counted down.
-pub fn talk(from: Moved, buf: &mut [u8], out: &mut [u8], asked: bool) -> Listed {
+pub fn talk<R: Read, W: Write>(
+    from: Moved,
+    source: &mut R,
+    buf: &mut [u8],
+    sink: &mut W,
+    out: &mut [u8],
+    asked: bool,
+) -> io::Result<Listed> {
     let mut at = Came {
         moved: from,
         number: 0,
@@ -104,8 +126,8 @@ pub fn talk(from: Moved, buf: &mut [u8], out: &mut [u8], asked: bool) -> Listed 
             break;
         }
         let moved = at.moved;
-        at = onward(moved, buf, out);
+        at = onward(moved, source, buf, sink, out)?;
         turns -= 1;
     }
-    finish(at, out, asked)
+    finish(at, sink, out, asked)
 }

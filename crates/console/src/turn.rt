@@ -14,6 +14,7 @@ pub struct Turned {
     pub len: usize,
 }
 
+#[tactic(auto, using(crate::proofs::TurnLaws::turned_none, crate::proofs::TurnLaws::turned_one))]
 pub fn turn(c: Conversation, replies: &[u32], out: &mut [u8; 512]) -> Turned
     ensures { Turn (conv_of c) replies.now result out.old out.new }
 {

@@ -1,17 +1,17 @@
 -- Writing on: bytes behind bytes
-use Prim.Native.Nat.{ℕ, zero, suc, ◌+◌, ◌≤◌, ◌<◌}
+use Prim.Native.Nat.{ℕ, zero, suc, ◌+◌, ◌*◌, ◌≤◌, ◌<◌}
 use mathlib.Core.Path.{◌≡◌, refl, ap, ap₂, sym, ◌∙◌}
 use mathlib.Core.List.{List, [], ◌∷◌, ◌++◌, append_assoc, append-nil}
 use native.Mathlib.Omega.{arith}
 use native.Mathlib.Nat.{add-zero}
 use native.Mathlib.Numerals.{add-one}
-use lib.ListN.{length, get_or, set, take, length-append, length-take}
-use lib.Seq.{sets, length-sets, take-suc, take_all}
+use lib.ListN.{length, get_or, set, take, drop, length-append, length-take}
+use lib.Seq.{sets, length-sets, sets-eq, take-suc, take_all, take-append_seam}
 use Rattle.text.specs.Written.{written}
 use Rattle.text.specs.declared.Written.{Written}
 use Rattle.text.specs.declared.Written.TheVariants.{To, Full}
 use Rattle.text.proofs.PutLaws.{written_fits}
-use Rattle.lines.specs.Listing.{Added, field_text, words_text}
+use Rattle.lines.specs.Listing.{Added, action_text, lines_text, field_text, words_text}
 
 module _ (out : List ℕ) (at : ℕ) (bytes : List ℕ) {r : Written} {new : List ℕ} (fits : at + length bytes ≤ length out)
     (e : written out at bytes ≡ (r, new)) where
@@ -75,3 +75,37 @@ module _ (ws : List ℕ) (n k : ℕ) (shown : length (take n ws) ≡ k) where
 
   pub front_length : k ≡ length (take k ws)
   front_length = rw front_same (sym shown)
+
+-- what was written from the start of a buffer
+pub added_whole : {old new bytes : List ℕ} {len : ℕ} → Added old 0 bytes len new → len ≤ length old → take len new ≡ bytes
+added_whole {old} {new} {bytes} {len} a h =
+    let long : len ≡ length bytes = omega (arith, a.place) in
+    let fits : 0 + length bytes ≤ length old = omega arith in
+    rw (a.stored, sets-eq bytes old 0 fits, long) (take-append_seam bytes (drop (0 + length bytes) old))
+
+-- one line more of a transcript
+abbrev thrice : ℕ → ℕ
+thrice zero = 0
+thrice (suc i) = suc (suc (suc (thrice i)))
+
+three_times : (i : ℕ) → thrice i ≡ 3 * i
+three_times zero = omega arith
+three_times (suc i) = omega (arith, three_times i)
+
+thrice_more : (i : ℕ) (t : List ℕ) → thrice i + 3 ≤ length t
+    → lines_text (take (thrice (suc i)) t) ≡ lines_text (take (thrice i) t) ++ action_text (get_or t (thrice i) 0) (get_or t (suc (thrice i)) 0) (get_or t (suc (suc (thrice i))) 0)
+thrice_more i [] h = absurd (omega arith)
+thrice_more i (a ∷ []) h = absurd (omega arith)
+thrice_more i (a ∷ b ∷ []) h = absurd (omega arith)
+thrice_more zero (a ∷ b ∷ c ∷ t) h = append-nil (action_text a b c)
+thrice_more (suc i) (a ∷ b ∷ c ∷ t) h =
+    ap (λ (l : List ℕ). action_text a b c ++ l) (thrice_more i t (omega arith))
+    ∙ sym (append_assoc (action_text a b c) (lines_text (take (thrice i) t)) (action_text (get_or t (thrice i) 0) (get_or t (suc (thrice i)) 0) (get_or t (suc (suc (thrice i))) 0)))
+
+pub lines_more : (i : ℕ) (t : List ℕ) → 3 * i + 3 ≤ length t
+    → lines_text (take (3 * (i + 1)) t) ≡ lines_text (take (3 * i) t) ++ action_text (get_or t (3 * i) 0) (get_or t (3 * i + 1) 0) (get_or t (3 * i + 2) 0)
+lines_more i t h =
+    let next : 3 * (i + 1) ≡ thrice (suc i) = omega (arith, three_times i) in
+    let second : 3 * i + 1 ≡ suc (thrice i) = omega (arith, three_times i) in
+    let third : 3 * i + 2 ≡ suc (suc (thrice i)) = omega (arith, three_times i) in
+    rw (next, second, third, ← three_times i) (thrice_more i t (omega (arith, three_times i)))

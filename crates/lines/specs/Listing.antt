@@ -30,6 +30,13 @@ action_text kind register value =
     (pick (eqb kind 2) (write_text register value)
     (wait_text value))
 
+-- a transcript's lines: three words an action
+abbrev pub lines_text : List ℕ → List ℕ
+lines_text [] = []
+lines_text (kind ∷ []) = []
+lines_text (kind ∷ register ∷ []) = []
+lines_text (kind ∷ register ∷ value ∷ ws) = action_text kind register value ++ lines_text ws
+
 -- fields are eight-digit words
 abbrev pub field_text : ℕ → List ℕ
 field_text w = (32 ∷ []) ++ hex_digits w

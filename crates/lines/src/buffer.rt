@@ -20,6 +20,7 @@ pub enum Seen {
 }
 
 // What is left behind the last newline of an input that has ended.
+#[tactic(auto, using(crate::proofs::BufferLaws::bare_part))]
 fn rest(buf: &[u8], from: usize) -> Seen
     ensures { rest_at buf.now from ≡ result }
 {
@@ -35,6 +36,7 @@ fn rest(buf: &[u8], from: usize) -> Seen
 }
 
 // The line that starts at `from`, where the bytes read so far are all of `buf`.
+#[tactic(auto, using(crate::proofs::BufferLaws::bare_part))]
 pub fn look(buf: &[u8], from: usize, ended: bool) -> Seen
     ensures { look_at buf.now from ended ≡ result }
 {
@@ -49,6 +51,7 @@ pub fn look(buf: &[u8], from: usize, ended: bool) -> Seen
 }
 
 // Moves what is not used yet to the front, so that there is room behind it, and says how much it is.
+#[tactic(auto, using(text::proofs::PartLaws::part_slice, crate::proofs::BufferLaws::shift_one))]
 pub fn to_front(buf: &mut [u8], from: usize, to: usize) -> usize
     ensures { moved buf.old from to ≡ (result, buf.new) }
 {

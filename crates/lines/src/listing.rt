@@ -24,6 +24,7 @@ use answers::{Answer, Value};
 use text::{Written, put, put_decimal, put_hex};
 
 // Bytes at a place that has room for them.
+#[tactic(auto, using(crate::proofs::ListingLaws::added_to, crate::proofs::ListingLaws::never_full))]
 fn add(out: &mut [u8; 512], at: usize, bytes: &[u8]) -> usize
     requires { at + length bytes.now ≤ 512 }
     ensures { Added out.old at bytes.now result out.new }
@@ -34,6 +35,7 @@ fn add(out: &mut [u8; 512], at: usize, bytes: &[u8]) -> usize
     }
 }
 
+#[tactic(auto, using(text::proofs::Back::length_last_hex, crate::proofs::ListingLaws::added_to, crate::proofs::ListingLaws::never_full))]
 fn add_hex(out: &mut [u8; 512], at: usize, v: u32) -> usize
     requires { at + 8 ≤ 512 }
     ensures added { Added out.old at (hex_digits v) result out.new }
@@ -45,6 +47,7 @@ fn add_hex(out: &mut [u8; 512], at: usize, v: u32) -> usize
     }
 }
 
+#[tactic(auto, using(text::proofs::Back::length_decimal, crate::proofs::ListingLaws::added_to, crate::proofs::ListingLaws::never_full))]
 fn add_decimal(out: &mut [u8; 512], at: usize, v: u64) -> usize
     requires { at + 20 ≤ 512 }
     ensures added { Added out.old at (decimal_digits v) result out.new }
@@ -56,16 +59,20 @@ fn add_decimal(out: &mut [u8; 512], at: usize, v: u64) -> usize
     }
 }
 
+#[tactic(auto, using(crate::proofs::ListingLaws::added_on))]
 fn read_line(register: u32, out: &mut [u8; 512]) -> usize
-    ensures { Added out.old 0 (read_text register) result out.new }
+    ensures added { Added out.old 0 (read_text register) result out.new }
+    ensures upper_bound { result ≤ 512 }
 {
     let a = add(out, 0, b"r ");
     let b = add_hex(out, a, register);
     add(out, b, b"\n")
 }
 
+#[tactic(auto, using(crate::proofs::ListingLaws::added_on))]
 fn write_line(register: u32, value: u32, out: &mut [u8; 512]) -> usize
-    ensures { Added out.old 0 (write_text register value) result out.new }
+    ensures added { Added out.old 0 (write_text register value) result out.new }
+    ensures upper_bound { result ≤ 512 }
 {
     let a = add(out, 0, b"w ");
     let b = add_hex(out, a, register);
@@ -74,8 +81,10 @@ fn write_line(register: u32, value: u32, out: &mut [u8; 512]) -> usize
     add(out, d, b"\n")
 }
 
+#[tactic(auto, using(crate::proofs::ListingLaws::added_on))]
 fn wait_line(micros: u32, out: &mut [u8; 512]) -> usize
-    ensures { Added out.old 0 (wait_text micros) result out.new }
+    ensures added { Added out.old 0 (wait_text micros) result out.new }
+    ensures upper_bound { result ≤ 512 }
 {
     let a = add(out, 0, b"d ");
     let b = add_decimal(out, a, micros as u64);
@@ -83,8 +92,10 @@ fn wait_line(micros: u32, out: &mut [u8; 512]) -> usize
 }
 
 // An action's line, by its three words in the transcript.
+#[tactic(auto, unfolding(crate::specs::Listing::action_text))]
 pub fn action_line(kind: u32, register: u32, value: u32, out: &mut [u8; 512]) -> usize
-    ensures { Added out.old 0 (action_text kind register value) result out.new }
+    ensures added { Added out.old 0 (action_text kind register value) result out.new }
+    ensures upper_bound { result ≤ 512 }
 {
     if kind == 1 {
         return read_line(register, out);
@@ -96,9 +107,11 @@ pub fn action_line(kind: u32, register: u32, value: u32, out: &mut [u8; 512]) ->
 }
 
 // The counts that close the last line.
+#[tactic(auto, using(crate::proofs::ListingLaws::added_on))]
 fn add_counts(out: &mut [u8; 512], at: usize, actions: u64, micros: u64) -> usize
     requires { at + 58 ≤ 512 }
-    ensures { Added out.old at (counts_text actions micros) result out.new }
+    ensures added { Added out.old at (counts_text actions micros) result out.new }
+    ensures upper_bound { result ≤ at + 58 }
 {
     let a = add(out, at, b" actions ");
     let b = add_decimal(out, a, actions);
@@ -108,6 +121,7 @@ fn add_counts(out: &mut [u8; 512], at: usize, actions: u64, micros: u64) -> usiz
 }
 
 // A blank and a field.
+#[tactic(auto, using(crate::proofs::ListingLaws::added_on))]
 fn add_field(out: &mut [u8; 512], at: usize, field: u32) -> usize
     requires { at + 9 ≤ 512 }
     ensures added { Added out.old at (field_text field) result out.new }
@@ -117,6 +131,7 @@ fn add_field(out: &mut [u8; 512], at: usize, field: u32) -> usize
     add_hex(out, a, field)
 }
 
+#[tactic(auto, using(crate::proofs::ListingLaws::added_on, crate::proofs::ListingLaws::added_none, crate::proofs::ListingLaws::words_more, crate::proofs::ListingLaws::words_all))]
 fn add_fields(out: &mut [u8; 512], at: usize, fields: &[u32]) -> usize
     requires { at + 9 * length fields.now ≤ 512 }
     ensures added { Added out.old at (words_text fields.now) result out.new }
@@ -132,6 +147,7 @@ fn add_fields(out: &mut [u8; 512], at: usize, fields: &[u32]) -> usize
 }
 
 // An answer's own words: twelve at the most.
+#[tactic(auto, using(crate::proofs::ListingLaws::front_within, crate::proofs::ListingLaws::front_same, crate::proofs::ListingLaws::front_length))]
 fn add_shown(out: &mut [u8; 512], at: usize, fields: Fields) -> usize
     requires { at + 108 ≤ 512 }
     ensures added { Added out.old at (words_text (shown fields)) result out.new }
@@ -155,8 +171,10 @@ fn add_block(out: &mut [u8; 512], at: usize, block: [u32; 16], n: u32) -> usize
     add_fields(out, at, &block)
 }
 
+#[tactic(auto, using(crate::proofs::ListingLaws::added_on, crate::proofs::ListingLaws::words_append))]
 fn ok_line(v: Value, block: [u32; 16], actions: u64, micros: u64, out: &mut [u8; 512]) -> usize
-    ensures { Added out.old 0 (ok_text (fields v block) actions micros) result out.new }
+    ensures added { Added out.old 0 (ok_text (fields v block) actions micros) result out.new }
+    ensures upper_bound { result ≤ 512 }
 {
     let a = add(out, 0, b"end ok");
     let b = add_shown(out, a, fields_of(v));
@@ -164,8 +182,10 @@ fn ok_line(v: Value, block: [u32; 16], actions: u64, micros: u64, out: &mut [u8;
     add_counts(out, c, actions, micros)
 }
 
+#[tactic(auto, using(crate::proofs::ListingLaws::added_on))]
 fn no_line(number: u32, fields: Fields, actions: u64, micros: u64, out: &mut [u8; 512]) -> usize
-    ensures { Added out.old 0 (no_text number (shown fields) actions micros) result out.new }
+    ensures added { Added out.old 0 (no_text number (shown fields) actions micros) result out.new }
+    ensures upper_bound { result ≤ 512 }
 {
     let a = add(out, 0, b"end no ");
     let b = add_decimal(out, a, number as u64);
@@ -181,7 +201,8 @@ pub fn end_line(
     micros: u64,
     out: &mut [u8; 512],
 ) -> usize
-    ensures { Added out.old 0 (end_text answer block actions micros) result out.new }
+    ensures added { Added out.old 0 (end_text answer block actions micros) result out.new }
+    ensures upper_bound { result ≤ 512 }
 {
     match answer {
         Answer::Ok(v) => ok_line(v, block, actions, micros, out),
@@ -190,8 +211,10 @@ pub fn end_line(
 }
 
 // The last line where the listing stops before the end: number and counts, with no other field.
+#[tactic(auto, using(crate::proofs::ListingLaws::added_on))]
 pub fn stop_line(number: u32, actions: u64, micros: u64, out: &mut [u8; 512]) -> usize
-    ensures { Added out.old 0 (stop_text number actions micros) result out.new }
+    ensures added { Added out.old 0 (stop_text number actions micros) result out.new }
+    ensures upper_bound { result ≤ 512 }
 {
     let a = add(out, 0, b"end no ");
     let b = add_decimal(out, a, number as u64);
@@ -199,8 +222,10 @@ pub fn stop_line(number: u32, actions: u64, micros: u64, out: &mut [u8; 512]) ->
 }
 
 // The words that a `command` leaves in its host block.
+#[tactic(auto, using(crate::proofs::ListingLaws::added_on))]
 pub fn left_line(block: [u32; 16], words: u32, out: &mut [u8; 512]) -> usize
-    ensures { Added out.old 0 (left_text (take words block)) result out.new }
+    ensures added { Added out.old 0 (left_text (take words block)) result out.new }
+    ensures upper_bound { result ≤ 512 }
 {
     let a = add(out, 0, b"left");
     let b = add_block(out, a, block, words);

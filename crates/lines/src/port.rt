@@ -13,6 +13,7 @@ pub enum PortLine {
 }
 
 // The last word. A lan of any size is read: `begin` refuses one above 1.
+#[tactic(auto, using(crate::proofs::Laws::found_hex))]
 fn lan_at(line: &[u8], at: usize, family: Family, device: u16) -> PortLine
     ensures { lan_of family device (words (drop at line.now)) ≡ result }
 {
@@ -32,6 +33,7 @@ fn lan_at(line: &[u8], at: usize, family: Family, device: u16) -> PortLine
     }
 }
 
+#[tactic(auto, using(text::proofs::HexBound::hex_below, crate::proofs::Laws::found_hex))]
 fn device_at(line: &[u8], at: usize, family: Family) -> PortLine
     ensures { device_of family (words (drop at line.now)) ≡ result }
 {
@@ -44,6 +46,7 @@ fn device_at(line: &[u8], at: usize, family: Family) -> PortLine
     }
 }
 
+#[tactic(auto, using(crate::proofs::Laws::found_is))]
 fn family_at(line: &[u8], at: usize) -> PortLine
     ensures { family_of (words (drop at line.now)) ≡ result }
 {
@@ -59,6 +62,7 @@ fn family_at(line: &[u8], at: usize) -> PortLine
     PortLine::Bad
 }
 
+#[tactic(auto, using(crate::proofs::Laws::found_is))]
 pub fn port_line(line: &[u8]) -> PortLine
     ensures { port_of (words line.now) ≡ result }
 {

@@ -12,6 +12,7 @@ pub enum ReplyLine {
     Bad,
 }
 
+#[tactic(auto, using(crate::proofs::Laws::found_hex))]
 fn value_at(line: &[u8], at: usize, kind: u32) -> ReplyLine
     ensures { value_of kind (words (drop at line.now)) ≡ result }
 {
@@ -27,6 +28,7 @@ fn value_at(line: &[u8], at: usize, kind: u32) -> ReplyLine
     }
 }
 
+#[tactic(auto, using(crate::proofs::Laws::found_is))]
 pub fn reply_line(line: &[u8]) -> ReplyLine
     ensures { reply_of (words line.now) ≡ result }
 {

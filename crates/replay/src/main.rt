@@ -4,42 +4,53 @@
 
 use console::listing::listing;
 use console::talk::Listed;
+use std::io;
+use std::io::{Read, Write};
 use streams::input::{Input, Next, fetch, is_case};
 use streams::output::{flush, print};
 use streams::part::part;
 
 // A case: its line, then its listing, whose input ends where the next case begins.
-fn replay(
+fn replay<R: Read, W: Write>(
+    source: &mut R,
     buf: &mut [u8],
     input: Input,
     start: usize,
     end: usize,
+    sink: &mut W,
     out: &mut [u8],
     n: usize,
-) -> Listed {
+) -> io::Result<Listed> {
     let line = part(buf, start, end);
-    let behind = print(out, n, line, line.len());
-    let m = print(out, behind, b"\n", 1);
-    listing(buf, input.within(true), out, m, false)
+    let behind = print(sink, out, n, line, line.len())?;
+    let m = print(sink, out, behind, b"\n", 1)?;
+    listing(source, buf, input.within(true), sink, out, m, false)
 }
 
 // A line outside a listing. One that begins no case is what a listing left unread, and is passed over.
-fn line(
+fn line<R: Read, W: Write>(
+    source: &mut R,
     buf: &mut [u8],
     input: Input,
     start: usize,
     end: usize,
+    sink: &mut W,
     out: &mut [u8],
     n: usize,
-) -> Listed {
+) -> io::Result<Listed> {
     if is_case(part(buf, start, end)) {
-        return replay(buf, input, start, end, out, n);
+        return replay(source, buf, input, start, end, sink, out, n);
     }
-    Listed { input, n }
+    Ok(Listed { input, n })
 }
 
-// All cases up to the end of standard input. A loop has to end, so it counts its turns down; no input has as many lines.
-fn cases(buf: &mut [u8], out: &mut [u8]) -> usize {
+// All cases up to the end of the input. A loop has to end, so it counts its turns down; no input has as many lines.
+fn cases<R: Read, W: Write>(
+    source: &mut R,
+    buf: &mut [u8],
+    sink: &mut W,
+    out: &mut [u8],
+) -> io::Result<usize> {
     let mut l = Listed {
         input: Input::new(false),
         n: 0,
@@ -47,21 +58,23 @@ fn cases(buf: &mut [u8], out: &mut [u8]) -> usize {
     let mut turns: u64 = u64::MAX;
     while turns > 0 {
         let input = l.input;
-        let f = fetch(buf, input.within(false));
+        let f = fetch(source, buf, input.within(false));
         let next = f.next;
         let rest = f.input;
         let Next::Line(start, end) = next else {
             break;
         };
-        l = line(buf, rest, start, end, out, l.n);
+        l = line(source, buf, rest, start, end, sink, out, l.n)?;
         turns -= 1;
     }
-    l.n
+    Ok(l.n)
 }
 
-fn main() {
+fn main(rt: HostRuntime) -> io::Result<()> {
     let mut buf = [0u8; 65536];
     let mut out = [0u8; 65536];
-    let n = cases(&mut buf, &mut out);
-    flush(&out, n);
+    let mut source = rt.stdin();
+    let mut sink = rt.stdout();
+    let n = cases(&mut source, &mut buf, &mut sink, &mut out)?;
+    flush(&mut sink, &out, n)
 }

@@ -1,3 +1,4 @@
 pub mod Part
 pub mod Input
 pub mod Due
+pub mod Output

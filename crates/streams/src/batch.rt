@@ -1,10 +1,16 @@
 // Replies that are in the buffer already, for one run, and the lines of what it wrote.
+ghost use Rattle.std.specs.Prelude.{◌*◌, take};
+ghost use Rattle.lines.specs.Listing.{action_text, lines_text};
+ghost use Rattle.streams.specs.Output.{PrintsAll, line_count};
+
 use crate::input::{Input, look};
 use crate::output::print;
 use crate::part::part;
 use lines::buffer::Seen;
 use lines::listing::action_line;
 use lines::reply::{ReplyLine, reply_line};
+use std::io;
+use std::io::Write;
 
 // The input from a place of the buffer on.
 fn from_place(input: Input, from: usize) -> Input {
@@ -42,27 +48,45 @@ pub fn read_ahead(buf: &[u8], input: Input, words: &mut [u32], behind: &mut [usi
     count
 }
 
-fn print_action(kind: u32, register: u32, value: u32, out: &mut [u8], n: usize) -> usize {
+// An action's line.
+fn print_action<W: Write>(
+    kind: u32,
+    register: u32,
+    value: u32,
+    sink: &mut W,
+    out: &mut [u8],
+    n: usize,
+) -> io::Result<usize>
+    ensures { PrintsAll result (W.contents sink.old) out.old n (action_text kind register value) (W.contents sink.new) out.new }
+{
     let mut line = [0u8; 512];
     let len = action_line(kind, register, value, &mut line);
-    print(out, n, &line, len)
+    print(sink, out, n, &line, len)
 }
 
 // The lines of a transcript's first words.
-pub fn print_lines(t: &[u32], at: usize, out: &mut [u8], n: usize) -> usize {
+pub fn print_lines<W: Write>(
+    t: &[u32],
+    at: usize,
+    sink: &mut W,
+    out: &mut [u8],
+    n: usize,
+) -> io::Result<usize>
+    ensures { PrintsAll result (W.contents sink.old) out.old n (lines_text (take (3 * line_count at t.now) t.now)) (W.contents sink.new) out.new }
+{
     let mut end = n;
     let mut i: usize = 0;
     while i < 128 {
         if at <= 3 * i {
-            return end;
+            return Ok(end);
         }
         if t.len() < 3 * i + 3 {
-            return end;
+            return Ok(end);
         }
-        end = print_action(t[3 * i], t[3 * i + 1], t[3 * i + 2], out, end);
+        end = print_action(t[3 * i], t[3 * i + 1], t[3 * i + 2], sink, out, end)?;
         i += 1;
     }
-    end
+    Ok(end)
 }
 
 // Behind the replies that were used.

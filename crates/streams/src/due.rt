@@ -7,6 +7,7 @@ use crate::part::part;
 use drive::uses_of;
 use hardware::Action;
 use lines::reply::{ReplyLine, reply_line};
+use std::io::Read;
 
 // Where a line that cannot be read stands in document 01's table, and where a reply that is missing does.
 pub const BAD_LINE: u32 = 25;
@@ -14,14 +15,14 @@ pub const BAD_LINE: u32 = 25;
 const NO_REPLY: u32 = 26;
 
 // What the pending action is answered: nothing for a wait, a reply's two words, or that the listing stops with a number.
-#[derive(Drop)]
+#[derive(Clone, Copy)]
 pub enum Due {
     Nothing,
     Reply(u32, u32),
     Stop(u32),
 }
 
-#[derive(Drop)]
+#[derive(Clone, Copy)]
 pub struct Answered {
     pub due: Due,
     pub input: Input,
@@ -42,14 +43,14 @@ fn read_reply(buf: &[u8], next: Next) -> Due
 }
 
 // A reply line is read only when its reply is due.
-pub fn answer(a: Action, buf: &mut [u8], input: Input) -> Answered {
+pub fn answer<R: Read>(a: Action, source: &mut R, buf: &mut [u8], input: Input) -> Answered {
     if uses_of(a) == 0 {
         return Answered {
             due: Due::Nothing,
             input,
         };
     }
-    let f = fetch(buf, input);
+    let f = fetch(source, buf, input);
     let next = f.next;
     let rest = f.input;
     Answered {

@@ -1,13 +1,13 @@
-// Standard input, a line at a time.
+// A reader's bytes, a line at a time.
 ghost use Rattle.std.specs.Prelude.{◌≡◌, false, ◌≤◌, length};
 ghost use Rattle.streams.specs.Input.{input, is_case, look_in, is_full, found_in};
 
 use crate::part::part;
-use libc::STDIN_FILENO;
 use lines::buffer::Seen;
+use std::io::Read;
 
 // Bytes of the buffer that were read and are not used yet. With `cases`, a line that begins a case ends the input.
-#[derive(Drop)]
+#[derive(Clone, Copy)]
 pub struct Input {
     pub from: usize,
     pub to: usize,
@@ -16,14 +16,14 @@ pub struct Input {
 }
 
 // A line of the buffer; an input that has ended; a line that is longer than the buffer.
-#[derive(Drop)]
+#[derive(Clone, Copy)]
 pub enum Next {
     Line(usize, usize),
     Ended,
     Long,
 }
 
-#[derive(Drop)]
+#[derive(Clone, Copy)]
 pub struct Fetched {
     pub next: Next,
     pub input: Input,
@@ -62,8 +62,8 @@ pub fn is_case(line: &[u8]) -> bool
     text::is(line, 0, 5, b"case ")
 }
 
-// One read of standard input behind what is there. A failed read counts as the end.
-fn fill(buf: &mut [u8], input: Input) -> Input {
+// One read behind what is there. A failed read counts as the end.
+fn fill<R: Read>(source: &mut R, buf: &mut [u8], input: Input) -> Input {
     let to = lines::buffer::to_front(buf, input.from, input.to);
     if to >= buf.len() {
         return Input {
@@ -73,7 +73,7 @@ fn fill(buf: &mut [u8], input: Input) -> Input {
             cases: input.cases,
         };
     }
-    let n = read_to(&mut buf[to..]);
+    let n = read_to(source, &mut buf[to..]);
     Input {
         from: 0,
         to: to + n,
@@ -82,11 +82,13 @@ fn fill(buf: &mut [u8], input: Input) -> Input {
     }
 }
 
-fn read_to(part: &mut [u8]) -> usize
+fn read_to<R: Read>(source: &mut R, part: &mut [u8]) -> usize
     ensures { result ≤ length part.old }
 {
-    let got = libc::read(STDIN_FILENO, part);
-    io::count(got, part)
+    match source.read(part) {
+        Ok(n) => n,
+        Err(_) => 0,
+    }
 }
 
 // What is there of the next line.
@@ -137,7 +139,7 @@ fn found(buf: &[u8], input: Input, start: usize, end: usize, next: usize) -> Fet
 
 // The next line. A loop has to end, so it counts its turns down: a read that adds nothing ends the input, so it takes no
 // more turns than the buffer has bytes, and two.
-pub fn fetch(buf: &mut [u8], input: Input) -> Fetched {
+pub fn fetch<R: Read>(source: &mut R, buf: &mut [u8], input: Input) -> Fetched {
     let mut now = input;
     let mut turns: u32 = 70000;
     while turns > 0 {
@@ -158,7 +160,7 @@ pub fn fetch(buf: &mut [u8], input: Input) -> Fetched {
                         input: now,
                     };
                 }
-                now = fill(buf, now);
+                now = fill(source, buf, now);
             }
         }
         turns -= 1;

@@ -1,4 +1,4 @@
-// Standard input and standard output, a line at a time.
+// A reader's lines and a writer's, a line at a time.
 #![tactic(auto)]
 
 pub mod batch;

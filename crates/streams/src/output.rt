@@ -1,25 +1,42 @@
-// Standard output, through a buffer.
-use libc::STDOUT_FILENO;
+// Lines to a writer, through a buffer.
+ghost use Rattle.std.specs.Prelude.{◌≤◌, length, take, IfOk, OnOk};
+ghost use Rattle.std.specs.Io.KnownBytes.{Appends};
+ghost use Rattle.streams.specs.Output.{Prints};
+
+use std::io;
+use std::io::Write;
 use text::Written;
 
 // The first n bytes of the buffer are written.
-pub fn flush(out: &[u8], n: usize) {
-    if n <= out.len() {
-        io::write_all(STDOUT_FILENO, &out[0..n]);
+pub fn flush<W: Write>(sink: &mut W, out: &[u8], n: usize) -> io::Result<()>
+    ensures { OnOk result (n ≤ length out.now → Appends (W.contents sink.old) (W.contents sink.new) (take n out.now)) }
+{
+    if n > out.len() {
+        return Ok(());
     }
+    sink.write_all(&out[..n])
 }
 
 // The first `len` bytes of a line go behind what waits to be written; where there is no room, that is written first.
-pub fn print(out: &mut [u8], n: usize, line: &[u8], len: usize) -> usize {
+pub fn print<W: Write>(
+    sink: &mut W,
+    out: &mut [u8],
+    n: usize,
+    line: &[u8],
+    len: usize,
+) -> io::Result<usize>
+    ensures { IfOk result (λ end. n ≤ length out.old → len ≤ length line.now → len ≤ length out.old
+        → Prints (W.contents sink.old) out.old n (take len line.now) (W.contents sink.new) out.new end) }
+{
     if len > line.len() {
-        return n;
+        return Ok(n);
     }
-    if let Written::To(end) = text::put(out, n, &line[0..len]) {
-        return end;
+    if let Written::To(end) = text::put(out, n, &line[..len]) {
+        return Ok(end);
     }
-    flush(out, n);
-    match text::put(out, 0, &line[0..len]) {
+    flush(sink, out, n)?;
+    Ok(match text::put(out, 0, &line[..len]) {
         Written::To(end) => end,
         Written::Full => 0,
-    }
+    })
 }

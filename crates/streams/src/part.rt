@@ -5,6 +5,7 @@ ghost use Rattle.streams.specs.Part.{part_of, line_of};
 use crate::input::Next;
 
 // From one place up to another. Where the buffer has no such part, it is empty, and no line that is empty can be read.
+#[tactic(auto, using(text::proofs::PartLaws::part_slice), unfolding(crate::specs::Part::part_of))]
 pub fn part(buf: &[u8], start: usize, end: usize) -> &[u8]
     ensures { part_of buf.now start end ≡ result.now }
 {

@@ -38,6 +38,7 @@ pub enum Written {
 }
 
 // The first newline at or after a place.
+#[tactic(auto, using(crate::proofs::LineLaws::newline_here, crate::proofs::LineLaws::newline_next, crate::proofs::LineLaws::newline_none))]
 pub fn line_end(text: &[u8], from: usize) -> Found
     ensures from_value { line_end text.now from ≡ result }
     ensures ahead { Ahead from text.now result }
@@ -53,6 +54,7 @@ pub fn line_end(text: &[u8], from: usize) -> Found
 }
 
 // How much of a line is left without the carriage return that may end it.
+#[tactic(auto, using(crate::proofs::LineLaws::length_none, crate::proofs::LineLaws::length_cut, crate::proofs::LineLaws::length_kept))]
 pub fn line_length(line: &[u8]) -> usize
     ensures line_len { length (bare line.now) ≡ result }
     ensures upper_bound { result ≤ length line.now }
@@ -75,6 +77,7 @@ fn is_blank(b: u8) -> bool
 }
 
 // The first byte at or after a place that is no blank, or the line's end.
+#[tactic(auto, using(crate::proofs::WordLaws::pass_blank))]
 fn word_start(line: &[u8], at: usize) -> usize
     requires { at ≤ length line.now }
     ensures { StartsAt line.now at result }
@@ -90,6 +93,7 @@ fn word_start(line: &[u8], at: usize) -> usize
 }
 
 // The first blank after a place, or the line's end.
+#[tactic(auto, using(crate::proofs::WordLaws::first_letter, crate::proofs::WordLaws::join_letter, crate::proofs::WordLaws::end_at_blank, crate::proofs::WordLaws::end_at_end))]
 fn word_end(line: &[u8], start: usize) -> usize
     requires start_in_bounds { start < length line.now }
     requires start_value { is_blank (get_or line.now start 0) ≡ false }
@@ -106,6 +110,7 @@ fn word_end(line: &[u8], start: usize) -> usize
 }
 
 // The first word at or after a place. Going on from its end gives all the words.
+#[tactic(auto, using(crate::proofs::WordLaws::no_words))]
 pub fn word(line: &[u8], at: usize) -> Span
     ensures line_value { words (drop at line.now) ≡ found line.now result }
     ensures inside { Inside at line.now result }
@@ -122,6 +127,7 @@ pub fn word(line: &[u8], at: usize) -> Span
 }
 
 // A hexadecimal digit of either case.
+#[tactic(auto, using(crate::proofs::HexLaws::digit_figure, crate::proofs::HexLaws::digit_small, crate::proofs::HexLaws::digit_capital, crate::proofs::HexLaws::no_digit_1, crate::proofs::HexLaws::no_digit_2, crate::proofs::HexLaws::no_digit_3, crate::proofs::HexLaws::no_digit_4))]
 fn digit(b: u8) -> Number
     ensures b_value { Hex·digit b ≡ result }
     ensures small { Small result }
@@ -135,6 +141,7 @@ fn digit(b: u8) -> Number
 }
 
 // The value of digits, of which eight fill 32 bits.
+#[tactic(auto, using(crate::proofs::HexLaws::value_end, crate::proofs::HexLaws::value_stop, crate::proofs::HexLaws::value_next, crate::proofs::HexLaws::one_more, crate::proofs::HexLaws::room))]
 fn value(word: &[u8]) -> Number
     requires { length word.now ≤ 8 }
     ensures { Hex·value 0 word.now ≡ result }
@@ -152,6 +159,7 @@ fn value(word: &[u8]) -> Number
 }
 
 // A word of so many digits, eight at most, so that its value fits.
+#[tactic(auto, unfolding(crate::specs::Hex::hex_word))]
 fn hex_word(word: &[u8], fewest: usize, most: usize) -> Number
     ensures { hex_word fewest most word.now ≡ result }
 {
@@ -168,6 +176,7 @@ fn hex_word(word: &[u8], fewest: usize, most: usize) -> Number
 }
 
 // The part of a line from `start` up to `end` as a hexadecimal number of `fewest` to `most` digits, eight at most.
+#[tactic(auto, using(crate::proofs::PartLaws::part_slice), unfolding(crate::specs::Hex::hex_part))]
 pub fn hex(line: &[u8], start: usize, end: usize, fewest: usize, most: usize) -> Number
     ensures { hex_part line.now start end fewest most ≡ result }
 {
@@ -181,6 +190,7 @@ pub fn hex(line: &[u8], start: usize, end: usize, fewest: usize, most: usize) ->
 }
 
 // Equal, byte by byte.
+#[tactic(auto, using(crate::proofs::SameLaws::same_lengths, crate::proofs::SameLaws::same_differs, crate::proofs::SameLaws::same_next, crate::proofs::SameLaws::same_end))]
 fn same(a: &[u8], b: &[u8]) -> bool
     ensures { Same·same a.now b.now ≡ result }
 {
@@ -198,6 +208,7 @@ fn same(a: &[u8], b: &[u8]) -> bool
 }
 
 // Whether the part of a line from `start` up to `end` is this name.
+#[tactic(auto, using(crate::proofs::PartLaws::part_slice), unfolding(crate::specs::Same::is_part))]
 pub fn is(line: &[u8], start: usize, end: usize, name: &[u8]) -> bool
     ensures { is_part line.now start end name.now ≡ result }
 {
@@ -212,6 +223,7 @@ pub fn is(line: &[u8], start: usize, end: usize, name: &[u8]) -> bool
 
 // Puts bytes into a buffer from a place on, or changes nothing where they do not fit. The place may lie anywhere, so what
 // is left behind it is found by subtraction.
+#[tactic(auto, using(crate::proofs::PutLaws::sets_next, crate::proofs::PutLaws::sets_end, crate::proofs::PutLaws::written_full, crate::proofs::PutLaws::written_fits))]
 pub fn put(out: &mut [u8], at: usize, bytes: &[u8]) -> Written
     ensures { written out.old at bytes.now ≡ (result, out.new) }
 {
@@ -238,6 +250,7 @@ fn glyph(d: u64) -> u8
 }
 
 // Eight hexadecimal digits in lower case.
+#[tactic(auto, using(crate::proofs::DigitLaws::hex_turn, crate::proofs::DigitLaws::hex_done))]
 pub fn put_hex(out: &mut [u8], at: usize, v: u32) -> Written
     ensures { written out.old at (hex_digits v) ≡ (result, out.new) }
 {
@@ -253,6 +266,7 @@ pub fn put_hex(out: &mut [u8], at: usize, v: u32) -> Written
 }
 
 // Decimal digits, with no zero in front. A u64 has twenty at most.
+#[tactic(auto, using(crate::proofs::PartLaws::part_rest, crate::proofs::DigitLaws::decimal_turn, crate::proofs::DigitLaws::decimal_last, crate::proofs::DigitLaws::two_places, crate::proofs::DigitLaws::tenth))]
 pub fn put_decimal(out: &mut [u8], at: usize, v: u64) -> Written
     ensures { written out.old at (decimal_digits v) ≡ (result, out.new) }
 {

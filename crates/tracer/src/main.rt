@@ -2,19 +2,34 @@
 #![tactic(auto)]
 
 use console::listing::listing;
+use std::env::Env;
+use std::io;
 use streams::input::Input;
 use streams::output::flush;
 
 // The argument `left` asks for one line more.
-fn asks_for_left() -> bool {
+fn asks_for_left(rt: &impl Env) -> bool {
     let mut word = [0u8; 8];
-    let len = os::arg(1, &mut word);
-    text::is(&word, 0, len, b"left")
+    match rt.arg(1, &mut word) {
+        Ok(len) => text::is(&word, 0, len, b"left"),
+        Err(_) => false,
+    }
 }
 
-fn main() {
+fn main(rt: HostRuntime) -> io::Result<()> {
     let mut buf = [0u8; 65536];
     let mut out = [0u8; 65536];
-    let l = listing(&mut buf, Input::new(false), &mut out, 0, asks_for_left());
-    flush(&out, l.n);
+    let asked = asks_for_left(&rt);
+    let mut source = rt.stdin();
+    let mut sink = rt.stdout();
+    let l = listing(
+        &mut source,
+        &mut buf,
+        Input::new(false),
+        &mut sink,
+        &mut out,
+        0,
+        asked,
+    )?;
+    flush(&mut sink, &out, l.n)
 }
