@@ -1,0 +1,24 @@
+use Prim.Native.Nat.{◌-◌}
+use mathlib.Core.Path.{◌≡◌, refl, ap}
+use borrow.Author.Rules.{rules}
+use lib.ListN.{length}
+use Rattle.access.specs.Locked.{told_locked}
+use Rattle.drive.specs.Moves.{tape, Moves, stays}
+use Rattle.drive.proofs.Laws.{then, told_as, moves_less}
+use Rattle.access.specs.declared.locked.LockedStep.TheVariants as lockedstep
+use Rattle.run_access.proofs.locked.run.Goals as goal
+
+pub loop-h-init : goal.loop-h-init
+loop-h-init c = (refl, stays)
+
+pub returns-then-next-h : goal.returns-then-next-h
+returns-then-next-h c = then c.loop-h.invariant.1 c.once-r.ensures
+
+pub returns-in-Done : goal.returns-in-Done
+returns-in-Done c = then c.loop-h.invariant.1 c.once-r.ensures
+
+pub loop-h-smaller : goal.loop-h-smaller
+loop-h-smaller c = moves_less c.once-r.ensures c.if-next-h.false
+
+pub loop-h-preserved : goal.loop-h-preserved
+loop-h-preserved c = (search rules, told_as (ap (told_locked c.args.port c.args.mask c.args.initial.block) c.in-Ask.is) (then c.loop-h.invariant.1 c.once-r.ensures))

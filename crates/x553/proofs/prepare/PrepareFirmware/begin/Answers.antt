@@ -1,0 +1,7 @@
+use mathlib.Core.Path.{sym}
+use Rattle.hardware.proofs.Laws.{then_assoc}
+use borrow.Author.Rules.{rules}
+use Rattle.x553.proofs.prepare.PrepareFirmware.begin.Goals as goal
+
+pub returns : goal.returns
+returns c = simp (c.asked.ensures, sym c.first-s.ensures, then_assoc) (simp (sym c.asked.ensures))

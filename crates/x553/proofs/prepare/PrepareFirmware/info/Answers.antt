@@ -1,0 +1,7 @@
+use Rattle.x553.proofs.Laws.{reset_place}
+use borrow.Author.Rules.{rules}
+use borrow.Author.Tests.{eq-eqb, ne_eqb}
+use Rattle.x553.proofs.prepare.PrepareFirmware.info.Goals as goal
+
+pub returns : goal.returns
+returns c = simp (ne_eqb _ _ c.if-phy-eq0.false, ne_eqb _ _ c.if-phy-eq4294967280.false, c.begin.ensures) (simp (c.if-veto.false, reset_place))
