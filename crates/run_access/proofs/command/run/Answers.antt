@@ -21,4 +21,4 @@ pub loop-h-smaller : goal.loop-h-smaller
 loop-h-smaller c = moves_less c.once-r.ensures c.if-next-h.false
 
 pub loop-h-preserved : goal.loop-h-preserved
-loop-h-preserved c = (search rules, search rules, told_as (ap (told_command c.args.port c.args.initial.block) c.in-Ask.is) (then c.loop-h.invariant.2 c.once-r.ensures))
+loop-h-preserved c = (search rules, search rules, told_as (ap (told_command c.args.port c.once-r.new.block) c.in-Ask.is) (then c.loop-h.invariant.2 c.once-r.ensures))

@@ -16,5 +16,5 @@ returns-in-Bits c = let g = c.args in
 pub returns-in-Token : goal.returns-in-Token
 returns-in-Token c = let g = c.args in
     from_as (ap (λ (s : Hold). told_hold g.port g.hw g.block.now (holdstep.Ask g.a s)) c.in-Token.is)
-    (told_as (sym (c.commanded.ensures c.run_of-r.new.1.1.1.1.0))
-    (token_moves g.port g.hw g.block.now c.run_of-r.new.1.1.1.1.0 c.in-Token.place c.in-Token.m c.run_of-r.result.step c.run_of-r.ensures))
+    (told_as (sym (c.commanded.ensures c.run_of-r.new.block))
+    (token_moves g.port g.hw g.block.now c.run_of-r.new.block c.in-Token.place c.in-Token.m c.run_of-r.result.step c.run_of-r.ensures))
