@@ -1,0 +1,8 @@
+use borrow.Author.Rules.{rules}
+use Rattle.operations.proofs.registers.Mdio.flag.Goals as goal
+
+pub returns-in-Err : goal.returns-in-Err
+returns-in-Err c = λ b. simp c.in-Err.is
+
+pub returns-in-Ok : goal.returns-in-Ok
+returns-in-Ok c = λ b. simp c.in-Ok.is
