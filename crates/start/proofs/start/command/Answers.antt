@@ -1,0 +1,6 @@
+use Rattle.operations.proofs.Laws.{command_begun}
+use borrow.Author.Rules.{rules}
+use Rattle.start.proofs.start.command.Goals as goal
+
+pub returns : goal.returns
+returns c = simp (c.count-n.ensures, command_begun)

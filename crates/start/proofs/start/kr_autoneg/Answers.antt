@@ -1,0 +1,7 @@
+use Rattle.reference.specs.X552.{kr_autoneg}
+use borrow.Author.Rules.{rules}
+use Rattle.start.proofs.start.kr_autoneg.Goals as goal
+
+pub returns : goal.returns
+unfolding kr_autoneg
+returns c = λ b. simp (c.start-step.ensures, c.sequence.ensures)

@@ -1,0 +1,5 @@
+use borrow.Author.Rules.{rules}
+use Rattle.start.proofs.start.phy_activity.Goals as goal
+
+pub returns : goal.returns
+returns c = simp (c.start-step.ensures, c.activity.ensures)

@@ -1,0 +1,5 @@
+use borrow.Author.Rules.{rules}
+use Rattle.start.proofs.start.probe.Goals as goal
+
+pub returns : goal.returns
+returns c = λ b. simp (c.start-step.ensures, c.probe.ensures)

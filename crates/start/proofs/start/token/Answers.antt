@@ -1,0 +1,6 @@
+use Rattle.operations.proofs.Laws.{token_begun}
+use borrow.Author.Rules.{rules}
+use Rattle.start.proofs.start.token.Goals as goal
+
+pub returns : goal.returns
+returns c = simp (c.put.ensures, token_begun)
