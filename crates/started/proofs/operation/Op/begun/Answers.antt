@@ -1,0 +1,5 @@
+use borrow.Author.Rules.{rules}
+use Rattle.started.proofs.operation.Op.begun.Goals as goal
+
+pub returns : goal.returns
+returns c = simp c.start-begun.ensures

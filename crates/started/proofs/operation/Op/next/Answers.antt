@@ -1,0 +1,5 @@
+use borrow.Author.Rules.{rules}
+use Rattle.started.proofs.operation.Op.next.Goals as goal
+
+pub returns : goal.returns
+returns c = simp (c.next-step.ensures, c.stepped.ensures)
