@@ -1,0 +1,16 @@
+use borrow.Author.Rules.{rules}
+use borrow.Author.Tests.{le-leb, lt-leb}
+use Rattle.trace.proofs.KindLaws.{takes_none, takes_truth, all_words, none_done, truth_next}
+use Rattle.trace.proofs.kr_registers.kr_autoneg.Goals as goal
+
+pub returns-then-args-ne2 : goal.returns-then-args-ne2
+returns-then-args-ne2 c = takes_truth (λ _. takes_truth (λ _. takes_none _)) _ c.if-args-ne2.true c.if-args-ne2.true
+
+pub returns-then-args-gt1 : goal.returns-then-args-gt1
+returns-then-args-gt1 c = rw (all_words 2 c.args.args.now c.if-args-ne2.false) (simp (truth_next, lt-leb _ _ c.if-args-gt1.true))
+
+pub returns-then-args-gt1-2 : goal.returns-then-args-gt1-2
+returns-then-args-gt1-2 c = rw (all_words 2 c.args.args.now c.if-args-ne2.false) (simp (truth_next, le-leb _ _ c.if-args-gt1.false, lt-leb _ _ c.if-args-gt1-2.true))
+
+pub returns : goal.returns
+returns c = rw (all_words 2 c.args.args.now c.if-args-ne2.false) (simp (none_done, truth_next, le-leb _ _ c.if-args-gt1.false, le-leb _ _ c.if-args-gt1-2.false))
