@@ -7,7 +7,7 @@ use streams::batch::{behind_used, first, print_lines, read_ahead};
 use streams::input::Input;
 
 // The conversation as it is then, what is left of the input, and how many bytes wait to be written.
-#[derive(Drop)]
+#[derive(Clone, Copy)]
 pub struct Moved {
     pub to: Conversation,
     pub input: Input,

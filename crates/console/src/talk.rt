@@ -12,14 +12,14 @@ use streams::input::Input;
 use streams::output::print;
 
 // What is left of the input behind a listing, and how many bytes wait to be written.
-#[derive(Drop)]
+#[derive(Clone, Copy)]
 pub struct Listed {
     pub input: Input,
     pub n: usize,
 }
 
 // Where a listing has come to, and the number that it stops with, 0 while it goes on.
-#[derive(Drop)]
+#[derive(Clone, Copy)]
 struct Came {
     moved: Moved,
     number: u32,

@@ -7,14 +7,13 @@ use conversation::run::run;
 use lines::listing::action_line;
 
 // How the run stopped, the conversation as it is then, and how many bytes of listing were written.
-#[derive(Drop)]
+#[derive(Clone, Copy)]
 pub struct Turned {
     pub stop: Stop,
     pub to: Conversation,
     pub len: usize,
 }
 
-#[tactic(auto, using(crate::proofs::TurnLaws::turned_none, crate::proofs::TurnLaws::turned_one))]
 pub fn turn(c: Conversation, replies: &[u32], out: &mut [u8; 512]) -> Turned
     ensures { Turn (conv_of c) replies.now result out.old out.new }
 {
