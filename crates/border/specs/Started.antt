@@ -1,11 +1,11 @@
 -- The words of started's states: a kind from 1 on, its numbers, its parts, and zeros up to the type's width
-use Rattle.std.specs.Prelude.{ℕ, ◌+◌, ◌%◌, ◌/◌, List, [], ◌∷◌, ◌++◌, eqb, drop, replicate}
+use Rattle.std.specs.Prelude.{ℕ, ◌%◌, ◌/◌, List, ◌∷◌, ◌++◌, eqb, drop, replicate}
 use Rattle.hardware.specs.Talk.{pick}
-use Rattle.packed_access.specs.Tape.{word_at, is, flag_of, joined}
-use Rattle.packed_access.specs.Access.{words_access, get_access}
-use Rattle.packed_access.specs.Hardware.{words_action, get_action}
-use Rattle.packed_after.specs.Operations.{words_after, get_after}
-use Rattle.packed_answers.specs.Answers.{words_answer, get_answer}
+use Rattle.packed_access.specs.Tape.{word_at, joined}
+use Rattle.packed_access.specs.Access.{get_access, words_access}
+use Rattle.packed_access.specs.Hardware.{get_action, words_action}
+use Rattle.packed_after.specs.Operations.{get_after, words_after}
+use Rattle.packed_answers.specs.Answers.{get_answer, words_answer}
 use Rattle.started.specs.declared.operation.Place.TheVariants as placev
 use Rattle.started.specs.declared.operation.Place.{Place}
 

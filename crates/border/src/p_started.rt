@@ -11,9 +11,9 @@ use packed_after::p_operations::{get_after, put_after};
 use packed_answers::p_answers::{get_answer, put_answer};
 use started::operation::{Op, Place};
 
-#[tactic(auto, unfolding(crate::specs::Started::words_place, crate::specs::Started::get_place, packed_access::specs::Tape::word_at))]
 pub fn put_place(tape: &mut [u32; 65], at: usize, s: Place) -> usize
-    ensures { Adds at tape.old (words_place s) result tape.new × ((rest : List ℕ) → get_place (words_place s ++ rest) ≡ s) }
+    ensures adds { Adds at tape.old (words_place s) result tape.new }
+    ensures back { (rest : List ℕ) → get_place (words_place s ++ rest) ≡ s }
 {
     match s {
         Place::Ended(answer, y) => {

@@ -1,7 +1,7 @@
 -- The words of access's states: a kind from 1 on, its numbers, its parts, and zeros up to the type's width
-use Rattle.std.specs.Prelude.{ℕ, ◌+◌, ◌%◌, ◌/◌, List, [], ◌∷◌, ◌++◌, eqb, drop, replicate}
+use Rattle.std.specs.Prelude.{ℕ, ◌%◌, ◌/◌, List, [], ◌∷◌, ◌++◌, eqb, drop, replicate}
 use Rattle.hardware.specs.Talk.{pick}
-use Rattle.packed_access.specs.Tape.{word_at, is, flag_of, joined}
+use Rattle.packed_access.specs.Tape.{word_at, joined}
 use Rattle.access.specs.declared.access.Access.TheVariants as accessv
 use Rattle.access.specs.declared.access.Access.{Access}
 use Rattle.access.specs.declared.body.Body.TheVariants as bodyv
@@ -18,21 +18,16 @@ use Rattle.access.specs.declared.locked.HoldPlace.TheVariants as hold_placev
 use Rattle.access.specs.declared.locked.HoldPlace.{HoldPlace}
 use Rattle.access.specs.declared.locked.Locked.TheVariants as lockedv
 use Rattle.access.specs.declared.locked.Locked.{Locked}
-use Rattle.packed_access.specs.Hardware.{words_unit, get_unit}
-use Rattle.packed_access.specs.Hardware.{words_word, get_word}
-use Rattle.packed_access.specs.Hostif.{words_command, get_command}
-use Rattle.packed_access.specs.Hostif.{words_flag, get_flag}
-use Rattle.packed_access.specs.Mdio.{words_mdio, get_mdio}
-use Rattle.packed_access.specs.Mdio.{words_wanted, get_wanted}
-use Rattle.packed_access.specs.Sideband.{words_kr, get_kr}
-use Rattle.packed_access.specs.Sideband.{words_kr_wanted, get_kr_wanted}
-use Rattle.packed_access.specs.Sideband.{words_nvm, get_nvm}
-use Rattle.packed_access.specs.Sync.{words_sync, get_sync}
+use Rattle.packed_access.specs.Hardware.{get_unit, get_word, words_unit, words_word}
+use Rattle.packed_access.specs.Hostif.{get_command, get_flag, words_command, words_flag}
+use Rattle.packed_access.specs.Mdio.{get_mdio, get_wanted, words_mdio, words_wanted}
+use Rattle.packed_access.specs.Sideband.{get_kr, get_kr_wanted, get_nvm, words_kr, words_kr_wanted, words_nvm}
+use Rattle.packed_access.specs.Sync.{get_sync, words_sync}
 
 -- 4 words
 unfoldable pub words_held : Held → List ℕ
 words_held (heldv.Mdio wanted) = 1 ∷ words_wanted wanted
-words_held (heldv.Kr kr-wanted) = 2 ∷ words_kr_wanted kr-wanted
+words_held (heldv.Kr kr_wanted) = 2 ∷ words_kr_wanted kr_wanted
 words_held (heldv.Nvm x) = 3 ∷ x ∷ replicate 2 0
 
 unfoldable pub get_held : List ℕ → Held
@@ -79,8 +74,8 @@ get_token_place s =
 
 -- 24 words
 unfoldable pub words_hold : Hold → List ℕ
-words_hold (holdv.Bits bits-place sync) = 1 ∷ (words_bits_place bits-place) ++ ((words_sync sync) ++ (replicate 2 0))
-words_hold (holdv.Token token-place command) = 2 ∷ (words_token_place token-place) ++ (words_command command)
+words_hold (holdv.Bits bits_place sync) = 1 ∷ (words_bits_place bits_place) ++ ((words_sync sync) ++ (replicate 2 0))
+words_hold (holdv.Token token_place command) = 2 ∷ (words_token_place token_place) ++ (words_command command)
 words_hold (holdv.Pausing x) = 3 ∷ x ∷ replicate 22 0
 
 unfoldable pub get_hold : List ℕ → Hold
@@ -92,7 +87,7 @@ get_hold s =
 -- 8 words
 unfoldable pub words_body : Body → List ℕ
 words_body (bodyv.Mdio wanted mdio) = 1 ∷ (words_wanted wanted) ++ (words_mdio mdio)
-words_body (bodyv.Kr kr-wanted kr) = 2 ∷ (words_kr_wanted kr-wanted) ++ (words_kr kr)
+words_body (bodyv.Kr kr_wanted kr) = 2 ∷ (words_kr_wanted kr_wanted) ++ (words_kr kr)
 words_body (bodyv.Nvm nvm) = 3 ∷ (words_nvm nvm) ++ (replicate 2 0)
 
 unfoldable pub get_body : List ℕ → Body
@@ -103,7 +98,7 @@ get_body s =
 
 -- 32 words
 unfoldable pub words_locked : Locked → List ℕ
-words_locked (lockedv.Hold hold-place hold) = 1 ∷ (words_hold_place hold-place) ++ (words_hold hold)
+words_locked (lockedv.Hold hold_place hold) = 1 ∷ (words_hold_place hold_place) ++ (words_hold hold)
 words_locked (lockedv.Body body) = 2 ∷ (words_body body) ++ (replicate 23 0)
 
 unfoldable pub get_locked : List ℕ → Locked

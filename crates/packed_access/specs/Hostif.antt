@@ -1,5 +1,5 @@
 -- The words of hostif's states: a kind from 1 on, its numbers, its parts, and zeros up to the type's width
-use Rattle.std.specs.Prelude.{ℕ, ◌+◌, ◌%◌, ◌/◌, List, [], ◌∷◌, ◌++◌, eqb, drop, replicate}
+use Rattle.std.specs.Prelude.{ℕ, ◌%◌, ◌/◌, List, [], ◌∷◌, ◌++◌, eqb, drop, replicate}
 use Rattle.hardware.specs.Talk.{pick}
 use Rattle.packed_access.specs.Tape.{word_at, is, flag_of, joined}
 use Rattle.hostif.specs.declared.command.Command.TheVariants as commandv
@@ -12,9 +12,8 @@ use Rattle.hostif.specs.declared.post.Post.TheVariants as postv
 use Rattle.hostif.specs.declared.post.Post.{Post}
 use Rattle.hostif.specs.declared.token.Flag.TheVariants as flagv
 use Rattle.hostif.specs.declared.token.Flag.{Flag}
-use Rattle.packed_access.specs.Hardware.{words_error, get_error}
-use Rattle.packed_access.specs.Hardware.{words_word, get_word}
-use Rattle.packed_access.specs.Sync.{words_sync, get_sync}
+use Rattle.packed_access.specs.Hardware.{get_error, get_word, words_error, words_word}
+use Rattle.packed_access.specs.Sync.{get_sync, words_sync}
 
 -- 7 words
 unfoldable pub words_command_place : CommandPlace → List ℕ
@@ -60,7 +59,7 @@ get_exchange s =
 
 -- 21 words
 unfoldable pub words_command : Command → List ℕ
-words_command (commandv.Sync command-place sync) = 1 ∷ (words_command_place command-place) ++ (words_sync sync)
+words_command (commandv.Sync command_place sync) = 1 ∷ (words_command_place command_place) ++ (words_sync sync)
 words_command (commandv.Body exchange) = 2 ∷ (words_exchange exchange) ++ (replicate 15 0)
 
 unfoldable pub get_command : List ℕ → Command

@@ -1,7 +1,7 @@
 -- The words of mdio's states: a kind from 1 on, its numbers, its parts, and zeros up to the type's width
-use Rattle.std.specs.Prelude.{ℕ, ◌+◌, ◌%◌, ◌/◌, List, [], ◌∷◌, ◌++◌, eqb, drop, replicate}
+use Rattle.std.specs.Prelude.{ℕ, ◌%◌, List, [], ◌∷◌, ◌++◌, eqb, drop, replicate}
 use Rattle.hardware.specs.Talk.{pick}
-use Rattle.packed_access.specs.Tape.{word_at, is, flag_of, joined}
+use Rattle.packed_access.specs.Tape.{word_at}
 use Rattle.mdio.specs.declared.cycle.Cycle.TheVariants as cyclev
 use Rattle.mdio.specs.declared.cycle.Cycle.{Cycle}
 use Rattle.mdio.specs.declared.mdio.Mdio.TheVariants as mdiov
@@ -46,7 +46,7 @@ get_cycle s =
 -- 4 words
 unfoldable pub words_mdio : Mdio → List ℕ
 words_mdio mdiov.Value = 1 ∷ replicate 3 0
-words_mdio (mdiov.Cycling mdio-place cycle) = 2 ∷ (words_mdio_place mdio-place) ++ (words_cycle cycle)
+words_mdio (mdiov.Cycling mdio_place cycle) = 2 ∷ (words_mdio_place mdio_place) ++ (words_cycle cycle)
 words_mdio mdiov.Data = 3 ∷ replicate 3 0
 
 unfoldable pub get_mdio : List ℕ → Mdio

@@ -1,8 +1,8 @@
 -- The words of sideband's states: a kind from 1 on, its numbers, its parts, and zeros up to the type's width
-use Rattle.std.specs.Prelude.{ℕ, ◌+◌, ◌%◌, ◌/◌, List, [], ◌∷◌, ◌++◌, eqb, drop, replicate}
+use Rattle.std.specs.Prelude.{ℕ, List, [], ◌∷◌, eqb, drop, replicate}
 use Rattle.hardware.specs.Talk.{pick}
-use Rattle.packed_access.specs.Tape.{word_at, is, flag_of, joined}
-use Rattle.packed_access.specs.Hostif.{words_post, get_post}
+use Rattle.packed_access.specs.Tape.{word_at}
+use Rattle.packed_access.specs.Hostif.{get_post, words_post}
 use Rattle.sideband.specs.declared.idle.Idle.TheVariants as idlev
 use Rattle.sideband.specs.declared.idle.Idle.{Idle}
 use Rattle.sideband.specs.declared.kr.Kr.TheVariants as krv

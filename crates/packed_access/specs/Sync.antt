@@ -1,8 +1,8 @@
 -- The words of sync's states: a kind from 1 on, its numbers, its parts, and zeros up to the type's width
-use Rattle.std.specs.Prelude.{ℕ, ◌+◌, ◌%◌, ◌/◌, List, [], ◌∷◌, ◌++◌, eqb, drop, replicate}
+use Rattle.std.specs.Prelude.{ℕ, List, [], ◌∷◌, ◌++◌, eqb, drop, replicate}
 use Rattle.hardware.specs.Talk.{pick}
-use Rattle.packed_access.specs.Tape.{word_at, is, flag_of, joined}
-use Rattle.packed_access.specs.Hardware.{words_unit, get_unit}
+use Rattle.packed_access.specs.Tape.{word_at, is, flag_of}
+use Rattle.packed_access.specs.Hardware.{get_unit, words_unit}
 use Rattle.sync.specs.declared.acquire_bits.AcquireBits.TheVariants as acquire_bitsv
 use Rattle.sync.specs.declared.acquire_bits.AcquireBits.{AcquireBits}
 use Rattle.sync.specs.declared.lock.Clear.TheVariants as clearv
@@ -88,7 +88,7 @@ words_acquire_bits acquire_bitsv.Writing = 3 ∷ replicate 8 0
 words_acquire_bits (acquire_bitsv.Ending unit unlock) = 4 ∷ (words_unit unit) ++ (words_unlock unlock)
 words_acquire_bits (acquire_bitsv.Held x y unlock) = 5 ∷ x ∷ y ∷ (words_unlock unlock) ++ (replicate 4 0)
 words_acquire_bits (acquire_bitsv.Waiting x y) = 6 ∷ x ∷ y ∷ replicate 6 0
-words_acquire_bits (acquire_bitsv.Switching set-mux) = 7 ∷ (words_set_mux set-mux) ++ (replicate 7 0)
+words_acquire_bits (acquire_bitsv.Switching set_mux) = 7 ∷ (words_set_mux set_mux) ++ (replicate 7 0)
 
 unfoldable pub get_acquire_bits : List ℕ → AcquireBits
 get_acquire_bits s =
@@ -102,7 +102,7 @@ get_acquire_bits s =
 
 -- 9 words
 unfoldable pub words_release_bits : ReleaseBits → List ℕ
-words_release_bits (release_bitsv.Switching set-mux) = 1 ∷ (words_set_mux set-mux) ++ (replicate 7 0)
+words_release_bits (release_bitsv.Switching set_mux) = 1 ∷ (words_set_mux set_mux) ++ (replicate 7 0)
 words_release_bits (release_bitsv.Locking lock) = 2 ∷ (words_lock lock) ++ (replicate 5 0)
 words_release_bits (release_bitsv.Clearing clear) = 3 ∷ (words_clear clear) ++ (replicate 7 0)
 words_release_bits (release_bitsv.Unlocking unit unlock) = 4 ∷ (words_unit unit) ++ (words_unlock unlock)
@@ -118,8 +118,8 @@ get_release_bits s =
 
 -- 13 words
 unfoldable pub words_sync : Sync → List ℕ
-words_sync (syncv.Take regs y acquire_bits_lem) = 1 ∷ regs.swsm ∷ regs.sync ∷ (flag_of y) ∷ words_acquire_bits acquire_bits_lem
-words_sync (syncv.Give regs release_bits_lem) = 2 ∷ regs.swsm ∷ regs.sync ∷ (words_release_bits release_bits_lem) ++ (0 ∷ [])
+words_sync (syncv.Take regs y acquire_bits) = 1 ∷ regs.swsm ∷ regs.sync ∷ (flag_of y) ∷ words_acquire_bits acquire_bits
+words_sync (syncv.Give regs release_bits) = 2 ∷ regs.swsm ∷ regs.sync ∷ (words_release_bits release_bits) ++ (0 ∷ [])
 
 unfoldable pub get_sync : List ℕ → Sync
 get_sync s =

@@ -16,7 +16,8 @@ use access::hold::{BitsPlace, Hold, TokenPlace};
 use access::locked::{HoldPlace, Locked};
 
 pub fn put_held(tape: &mut [u32; 65], at: usize, s: Held) -> usize
-    ensures { Adds at tape.old (words_held s) result tape.new × ((rest : List ℕ) → get_held (words_held s ++ rest) ≡ s) }
+    ensures adds { Adds at tape.old (words_held s) result tape.new }
+    ensures back { (rest : List ℕ) → get_held (words_held s ++ rest) ≡ s }
 {
     match s {
         Held::Mdio(wanted) => {
@@ -35,6 +36,7 @@ pub fn put_held(tape: &mut [u32; 65], at: usize, s: Held) -> usize
     }
 }
 
+#[tactic(auto, unfolding(crate::specs::Access::get_held))]
 pub fn get_held(words: &[u32], at: usize) -> Held
     ensures { result ≡ get_held (drop at words.now) }
 {
@@ -49,7 +51,8 @@ pub fn get_held(words: &[u32], at: usize) -> Held
 }
 
 pub fn put_hold_place(tape: &mut [u32; 65], at: usize, s: HoldPlace) -> usize
-    ensures { Adds at tape.old (words_hold_place s) result tape.new × ((rest : List ℕ) → get_hold_place (words_hold_place s ++ rest) ≡ s) }
+    ensures adds { Adds at tape.old (words_hold_place s) result tape.new }
+    ensures back { (rest : List ℕ) → get_hold_place (words_hold_place s ++ rest) ≡ s }
 {
     match s {
         HoldPlace::Alone => {
@@ -68,6 +71,7 @@ pub fn put_hold_place(tape: &mut [u32; 65], at: usize, s: HoldPlace) -> usize
     }
 }
 
+#[tactic(auto, unfolding(crate::specs::Access::get_hold_place))]
 pub fn get_hold_place(words: &[u32], at: usize) -> HoldPlace
     ensures { result ≡ get_hold_place (drop at words.now) }
 {
@@ -82,7 +86,8 @@ pub fn get_hold_place(words: &[u32], at: usize) -> HoldPlace
 }
 
 pub fn put_bits_place(tape: &mut [u32; 65], at: usize, s: BitsPlace) -> usize
-    ensures { Adds at tape.old (words_bits_place s) result tape.new × ((rest : List ℕ) → get_bits_place (words_bits_place s ++ rest) ≡ s) }
+    ensures adds { Adds at tape.old (words_bits_place s) result tape.new }
+    ensures back { (rest : List ℕ) → get_bits_place (words_bits_place s ++ rest) ≡ s }
 {
     match s {
         BitsPlace::Plain => {
@@ -107,6 +112,7 @@ pub fn put_bits_place(tape: &mut [u32; 65], at: usize, s: BitsPlace) -> usize
     }
 }
 
+#[tactic(auto, unfolding(crate::specs::Access::get_bits_place))]
 pub fn get_bits_place(words: &[u32], at: usize) -> BitsPlace
     ensures { result ≡ get_bits_place (drop at words.now) }
 {
@@ -123,7 +129,8 @@ pub fn get_bits_place(words: &[u32], at: usize) -> BitsPlace
 }
 
 pub fn put_token_place(tape: &mut [u32; 65], at: usize, s: TokenPlace) -> usize
-    ensures { Adds at tape.old (words_token_place s) result tape.new × ((rest : List ℕ) → get_token_place (words_token_place s ++ rest) ≡ s) }
+    ensures adds { Adds at tape.old (words_token_place s) result tape.new }
+    ensures back { (rest : List ℕ) → get_token_place (words_token_place s ++ rest) ≡ s }
 {
     match s {
         TokenPlace::Taking(x) => {
@@ -137,6 +144,7 @@ pub fn put_token_place(tape: &mut [u32; 65], at: usize, s: TokenPlace) -> usize
     }
 }
 
+#[tactic(auto, unfolding(crate::specs::Access::get_token_place))]
 pub fn get_token_place(words: &[u32], at: usize) -> TokenPlace
     ensures { result ≡ get_token_place (drop at words.now) }
 {
@@ -149,7 +157,8 @@ pub fn get_token_place(words: &[u32], at: usize) -> TokenPlace
 }
 
 pub fn put_hold(tape: &mut [u32; 65], at: usize, s: Hold) -> usize
-    ensures { Adds at tape.old (words_hold s) result tape.new × ((rest : List ℕ) → get_hold (words_hold s ++ rest) ≡ s) }
+    ensures adds { Adds at tape.old (words_hold s) result tape.new }
+    ensures back { (rest : List ℕ) → get_hold (words_hold s ++ rest) ≡ s }
 {
     match s {
         Hold::Bits(bits_place, sync) => {
@@ -171,6 +180,7 @@ pub fn put_hold(tape: &mut [u32; 65], at: usize, s: Hold) -> usize
     }
 }
 
+#[tactic(auto, unfolding(crate::specs::Access::get_hold))]
 pub fn get_hold(words: &[u32], at: usize) -> Hold
     ensures { result ≡ get_hold (drop at words.now) }
 {
@@ -191,7 +201,8 @@ pub fn get_hold(words: &[u32], at: usize) -> Hold
 }
 
 pub fn put_body(tape: &mut [u32; 65], at: usize, s: Body) -> usize
-    ensures { Adds at tape.old (words_body s) result tape.new × ((rest : List ℕ) → get_body (words_body s ++ rest) ≡ s) }
+    ensures adds { Adds at tape.old (words_body s) result tape.new }
+    ensures back { (rest : List ℕ) → get_body (words_body s ++ rest) ≡ s }
 {
     match s {
         Body::Mdio(wanted, mdio) => {
@@ -212,6 +223,7 @@ pub fn put_body(tape: &mut [u32; 65], at: usize, s: Body) -> usize
     }
 }
 
+#[tactic(auto, unfolding(crate::specs::Access::get_body))]
 pub fn get_body(words: &[u32], at: usize) -> Body
     ensures { result ≡ get_body (drop at words.now) }
 {
@@ -232,7 +244,8 @@ pub fn get_body(words: &[u32], at: usize) -> Body
 }
 
 pub fn put_locked(tape: &mut [u32; 65], at: usize, s: Locked) -> usize
-    ensures { Adds at tape.old (words_locked s) result tape.new × ((rest : List ℕ) → get_locked (words_locked s ++ rest) ≡ s) }
+    ensures adds { Adds at tape.old (words_locked s) result tape.new }
+    ensures back { (rest : List ℕ) → get_locked (words_locked s ++ rest) ≡ s }
 {
     match s {
         Locked::Hold(hold_place, hold) => {
@@ -248,6 +261,7 @@ pub fn put_locked(tape: &mut [u32; 65], at: usize, s: Locked) -> usize
     }
 }
 
+#[tactic(auto, unfolding(crate::specs::Access::get_locked))]
 pub fn get_locked(words: &[u32], at: usize) -> Locked
     ensures { result ≡ get_locked (drop at words.now) }
 {
@@ -263,7 +277,8 @@ pub fn get_locked(words: &[u32], at: usize) -> Locked
 }
 
 pub fn put_access(tape: &mut [u32; 65], at: usize, s: Access) -> usize
-    ensures { Adds at tape.old (words_access s) result tape.new × ((rest : List ℕ) → get_access (words_access s ++ rest) ≡ s) }
+    ensures adds { Adds at tape.old (words_access s) result tape.new }
+    ensures back { (rest : List ℕ) → get_access (words_access s ++ rest) ≡ s }
 {
     match s {
         Access::Reading => {
@@ -292,6 +307,7 @@ pub fn put_access(tape: &mut [u32; 65], at: usize, s: Access) -> usize
     }
 }
 
+#[tactic(auto, unfolding(crate::specs::Access::get_access))]
 pub fn get_access(words: &[u32], at: usize) -> Access
     ensures { result ≡ get_access (drop at words.now) }
 {

@@ -8,7 +8,8 @@ use crate::tape::{wide_byte, word, zeros};
 use hardware::{Action, Error, Family, Unit, Word};
 
 pub fn put_error(tape: &mut [u32; 65], at: usize, s: Error) -> usize
-    ensures { Adds at tape.old (words_error s) result tape.new × ((rest : List ℕ) → get_error (words_error s ++ rest) ≡ s) }
+    ensures adds { Adds at tape.old (words_error s) result tape.new }
+    ensures back { (rest : List ℕ) → get_error (words_error s ++ rest) ≡ s }
 {
     match s {
         Error::Io(x) => {
@@ -81,6 +82,7 @@ pub fn put_error(tape: &mut [u32; 65], at: usize, s: Error) -> usize
     }
 }
 
+#[tactic(auto, unfolding(crate::specs::Hardware::get_error))]
 pub fn get_error(words: &[u32], at: usize) -> Error
     ensures { result ≡ get_error (drop at words.now) }
 {
@@ -130,7 +132,8 @@ pub fn get_error(words: &[u32], at: usize) -> Error
 }
 
 pub fn put_action(tape: &mut [u32; 65], at: usize, s: Action) -> usize
-    ensures { Adds at tape.old (words_action s) result tape.new × ((rest : List ℕ) → get_action (words_action s ++ rest) ≡ s) }
+    ensures adds { Adds at tape.old (words_action s) result tape.new }
+    ensures back { (rest : List ℕ) → get_action (words_action s ++ rest) ≡ s }
 {
     match s {
         Action::Read(x) => {
@@ -151,6 +154,7 @@ pub fn put_action(tape: &mut [u32; 65], at: usize, s: Action) -> usize
     }
 }
 
+#[tactic(auto, unfolding(crate::specs::Hardware::get_action))]
 pub fn get_action(words: &[u32], at: usize) -> Action
     ensures { result ≡ get_action (drop at words.now) }
 {
@@ -165,7 +169,8 @@ pub fn get_action(words: &[u32], at: usize) -> Action
 }
 
 pub fn put_family(tape: &mut [u32; 65], at: usize, s: Family) -> usize
-    ensures { Adds at tape.old (words_family s) result tape.new × ((rest : List ℕ) → get_family (words_family s ++ rest) ≡ s) }
+    ensures adds { Adds at tape.old (words_family s) result tape.new }
+    ensures back { (rest : List ℕ) → get_family (words_family s ++ rest) ≡ s }
 {
     match s {
         Family::X552 => word(tape, at, 1),
@@ -173,6 +178,7 @@ pub fn put_family(tape: &mut [u32; 65], at: usize, s: Family) -> usize
     }
 }
 
+#[tactic(auto, unfolding(crate::specs::Hardware::get_family))]
 pub fn get_family(words: &[u32], at: usize) -> Family
     ensures { result ≡ get_family (drop at words.now) }
 {
@@ -185,7 +191,8 @@ pub fn get_family(words: &[u32], at: usize) -> Family
 }
 
 pub fn put_word(tape: &mut [u32; 65], at: usize, s: Word) -> usize
-    ensures { Adds at tape.old (words_word s) result tape.new × ((rest : List ℕ) → get_word (words_word s ++ rest) ≡ s) }
+    ensures adds { Adds at tape.old (words_word s) result tape.new }
+    ensures back { (rest : List ℕ) → get_word (words_word s ++ rest) ≡ s }
 {
     match s {
         Word::Ok(x) => {
@@ -200,6 +207,7 @@ pub fn put_word(tape: &mut [u32; 65], at: usize, s: Word) -> usize
     }
 }
 
+#[tactic(auto, unfolding(crate::specs::Hardware::get_word))]
 pub fn get_word(words: &[u32], at: usize) -> Word
     ensures { result ≡ get_word (drop at words.now) }
 {
@@ -212,7 +220,8 @@ pub fn get_word(words: &[u32], at: usize) -> Word
 }
 
 pub fn put_unit(tape: &mut [u32; 65], at: usize, s: Unit) -> usize
-    ensures { Adds at tape.old (words_unit s) result tape.new × ((rest : List ℕ) → get_unit (words_unit s ++ rest) ≡ s) }
+    ensures adds { Adds at tape.old (words_unit s) result tape.new }
+    ensures back { (rest : List ℕ) → get_unit (words_unit s ++ rest) ≡ s }
 {
     match s {
         Unit::Ok => {
@@ -226,6 +235,7 @@ pub fn put_unit(tape: &mut [u32; 65], at: usize, s: Unit) -> usize
     }
 }
 
+#[tactic(auto, unfolding(crate::specs::Hardware::get_unit))]
 pub fn get_unit(words: &[u32], at: usize) -> Unit
     ensures { result ≡ get_unit (drop at words.now) }
 {

@@ -13,7 +13,8 @@ use hostif::post::Post;
 use hostif::token::Flag;
 
 pub fn put_command_place(tape: &mut [u32; 65], at: usize, s: CommandPlace) -> usize
-    ensures { Adds at tape.old (words_command_place s) result tape.new × ((rest : List ℕ) → get_command_place (words_command_place s ++ rest) ≡ s) }
+    ensures adds { Adds at tape.old (words_command_place s) result tape.new }
+    ensures back { (rest : List ℕ) → get_command_place (words_command_place s ++ rest) ≡ s }
 {
     match s {
         CommandPlace::Acquiring => {
@@ -27,6 +28,7 @@ pub fn put_command_place(tape: &mut [u32; 65], at: usize, s: CommandPlace) -> us
     }
 }
 
+#[tactic(auto, unfolding(crate::specs::Hostif::get_command_place))]
 pub fn get_command_place(words: &[u32], at: usize) -> CommandPlace
     ensures { result ≡ get_command_place (drop at words.now) }
 {
@@ -39,7 +41,8 @@ pub fn get_command_place(words: &[u32], at: usize) -> CommandPlace
 }
 
 pub fn put_post(tape: &mut [u32; 65], at: usize, s: Post) -> usize
-    ensures { Adds at tape.old (words_post s) result tape.new × ((rest : List ℕ) → get_post (words_post s ++ rest) ≡ s) }
+    ensures adds { Adds at tape.old (words_post s) result tape.new }
+    ensures back { (rest : List ℕ) → get_post (words_post s ++ rest) ≡ s }
 {
     match s {
         Post::Fwsts => {
@@ -78,6 +81,7 @@ pub fn put_post(tape: &mut [u32; 65], at: usize, s: Post) -> usize
     }
 }
 
+#[tactic(auto, unfolding(crate::specs::Hostif::get_post))]
 pub fn get_post(words: &[u32], at: usize) -> Post
     ensures { result ≡ get_post (drop at words.now) }
 {
@@ -103,7 +107,8 @@ pub fn get_post(words: &[u32], at: usize) -> Post
 }
 
 pub fn put_exchange(tape: &mut [u32; 65], at: usize, s: Exchange) -> usize
-    ensures { Adds at tape.old (words_exchange s) result tape.new × ((rest : List ℕ) → get_exchange (words_exchange s ++ rest) ≡ s) }
+    ensures adds { Adds at tape.old (words_exchange s) result tape.new }
+    ensures back { (rest : List ℕ) → get_exchange (words_exchange s ++ rest) ≡ s }
 {
     match s {
         Exchange::Post(post) => {
@@ -124,6 +129,7 @@ pub fn put_exchange(tape: &mut [u32; 65], at: usize, s: Exchange) -> usize
     }
 }
 
+#[tactic(auto, unfolding(crate::specs::Hostif::get_exchange))]
 pub fn get_exchange(words: &[u32], at: usize) -> Exchange
     ensures { result ≡ get_exchange (drop at words.now) }
 {
@@ -142,7 +148,8 @@ pub fn get_exchange(words: &[u32], at: usize) -> Exchange
 }
 
 pub fn put_command(tape: &mut [u32; 65], at: usize, s: Command) -> usize
-    ensures { Adds at tape.old (words_command s) result tape.new × ((rest : List ℕ) → get_command (words_command s ++ rest) ≡ s) }
+    ensures adds { Adds at tape.old (words_command s) result tape.new }
+    ensures back { (rest : List ℕ) → get_command (words_command s ++ rest) ≡ s }
 {
     match s {
         Command::Sync(command_place, sync) => {
@@ -158,6 +165,7 @@ pub fn put_command(tape: &mut [u32; 65], at: usize, s: Command) -> usize
     }
 }
 
+#[tactic(auto, unfolding(crate::specs::Hostif::get_command))]
 pub fn get_command(words: &[u32], at: usize) -> Command
     ensures { result ≡ get_command (drop at words.now) }
 {
@@ -173,7 +181,8 @@ pub fn get_command(words: &[u32], at: usize) -> Command
 }
 
 pub fn put_flag(tape: &mut [u32; 65], at: usize, s: Flag) -> usize
-    ensures { Adds at tape.old (words_flag s) result tape.new × ((rest : List ℕ) → get_flag (words_flag s ++ rest) ≡ s) }
+    ensures adds { Adds at tape.old (words_flag s) result tape.new }
+    ensures back { (rest : List ℕ) → get_flag (words_flag s ++ rest) ≡ s }
 {
     match s {
         Flag::Ok(x) => {
@@ -188,6 +197,7 @@ pub fn put_flag(tape: &mut [u32; 65], at: usize, s: Flag) -> usize
     }
 }
 
+#[tactic(auto, unfolding(crate::specs::Hostif::get_flag))]
 pub fn get_flag(words: &[u32], at: usize) -> Flag
     ensures { result ≡ get_flag (drop at words.now) }
 {

@@ -9,7 +9,8 @@ use mdio::cycle::Cycle;
 use mdio::mdio::{Mdio, MdioPlace, Wanted};
 
 pub fn put_wanted(tape: &mut [u32; 65], at: usize, s: Wanted) -> usize
-    ensures { Adds at tape.old (words_wanted s) result tape.new × ((rest : List ℕ) → get_wanted (words_wanted s ++ rest) ≡ s) }
+    ensures adds { Adds at tape.old (words_wanted s) result tape.new }
+    ensures back { (rest : List ℕ) → get_wanted (words_wanted s ++ rest) ≡ s }
 {
     match s {
         Wanted::Read(x) => {
@@ -25,6 +26,7 @@ pub fn put_wanted(tape: &mut [u32; 65], at: usize, s: Wanted) -> usize
     }
 }
 
+#[tactic(auto, unfolding(crate::specs::Mdio::get_wanted))]
 pub fn get_wanted(words: &[u32], at: usize) -> Wanted
     ensures { result ≡ get_wanted (drop at words.now) }
 {
@@ -37,7 +39,8 @@ pub fn get_wanted(words: &[u32], at: usize) -> Wanted
 }
 
 pub fn put_mdio_place(tape: &mut [u32; 65], at: usize, s: MdioPlace) -> usize
-    ensures { Adds at tape.old (words_mdio_place s) result tape.new × ((rest : List ℕ) → get_mdio_place (words_mdio_place s ++ rest) ≡ s) }
+    ensures adds { Adds at tape.old (words_mdio_place s) result tape.new }
+    ensures back { (rest : List ℕ) → get_mdio_place (words_mdio_place s ++ rest) ≡ s }
 {
     match s {
         MdioPlace::Address => word(tape, at, 1),
@@ -45,6 +48,7 @@ pub fn put_mdio_place(tape: &mut [u32; 65], at: usize, s: MdioPlace) -> usize
     }
 }
 
+#[tactic(auto, unfolding(crate::specs::Mdio::get_mdio_place))]
 pub fn get_mdio_place(words: &[u32], at: usize) -> MdioPlace
     ensures { result ≡ get_mdio_place (drop at words.now) }
 {
@@ -57,7 +61,8 @@ pub fn get_mdio_place(words: &[u32], at: usize) -> MdioPlace
 }
 
 pub fn put_cycle(tape: &mut [u32; 65], at: usize, s: Cycle) -> usize
-    ensures { Adds at tape.old (words_cycle s) result tape.new × ((rest : List ℕ) → get_cycle (words_cycle s ++ rest) ≡ s) }
+    ensures adds { Adds at tape.old (words_cycle s) result tape.new }
+    ensures back { (rest : List ℕ) → get_cycle (words_cycle s ++ rest) ≡ s }
 {
     match s {
         Cycle::Starting => {
@@ -75,6 +80,7 @@ pub fn put_cycle(tape: &mut [u32; 65], at: usize, s: Cycle) -> usize
     }
 }
 
+#[tactic(auto, unfolding(crate::specs::Mdio::get_cycle))]
 pub fn get_cycle(words: &[u32], at: usize) -> Cycle
     ensures { result ≡ get_cycle (drop at words.now) }
 {
@@ -89,7 +95,8 @@ pub fn get_cycle(words: &[u32], at: usize) -> Cycle
 }
 
 pub fn put_mdio(tape: &mut [u32; 65], at: usize, s: Mdio) -> usize
-    ensures { Adds at tape.old (words_mdio s) result tape.new × ((rest : List ℕ) → get_mdio (words_mdio s ++ rest) ≡ s) }
+    ensures adds { Adds at tape.old (words_mdio s) result tape.new }
+    ensures back { (rest : List ℕ) → get_mdio (words_mdio s ++ rest) ≡ s }
 {
     match s {
         Mdio::Value => {
@@ -108,6 +115,7 @@ pub fn put_mdio(tape: &mut [u32; 65], at: usize, s: Mdio) -> usize
     }
 }
 
+#[tactic(auto, unfolding(crate::specs::Mdio::get_mdio))]
 pub fn get_mdio(words: &[u32], at: usize) -> Mdio
     ensures { result ≡ get_mdio (drop at words.now) }
 {

@@ -11,7 +11,8 @@ use sideband::kr::{Kr, KrWanted};
 use sideband::nvm::Nvm;
 
 pub fn put_kr_wanted(tape: &mut [u32; 65], at: usize, s: KrWanted) -> usize
-    ensures { Adds at tape.old (words_kr_wanted s) result tape.new × ((rest : List ℕ) → get_kr_wanted (words_kr_wanted s ++ rest) ≡ s) }
+    ensures adds { Adds at tape.old (words_kr_wanted s) result tape.new }
+    ensures back { (rest : List ℕ) → get_kr_wanted (words_kr_wanted s ++ rest) ≡ s }
 {
     match s {
         KrWanted::Read(x) => {
@@ -27,6 +28,7 @@ pub fn put_kr_wanted(tape: &mut [u32; 65], at: usize, s: KrWanted) -> usize
     }
 }
 
+#[tactic(auto, unfolding(crate::specs::Sideband::get_kr_wanted))]
 pub fn get_kr_wanted(words: &[u32], at: usize) -> KrWanted
     ensures { result ≡ get_kr_wanted (drop at words.now) }
 {
@@ -39,7 +41,8 @@ pub fn get_kr_wanted(words: &[u32], at: usize) -> KrWanted
 }
 
 pub fn put_idle(tape: &mut [u32; 65], at: usize, s: Idle) -> usize
-    ensures { Adds at tape.old (words_idle s) result tape.new × ((rest : List ℕ) → get_idle (words_idle s ++ rest) ≡ s) }
+    ensures adds { Adds at tape.old (words_idle s) result tape.new }
+    ensures back { (rest : List ℕ) → get_idle (words_idle s ++ rest) ≡ s }
 {
     match s {
         Idle::Reading(x) => {
@@ -55,6 +58,7 @@ pub fn put_idle(tape: &mut [u32; 65], at: usize, s: Idle) -> usize
     }
 }
 
+#[tactic(auto, unfolding(crate::specs::Sideband::get_idle))]
 pub fn get_idle(words: &[u32], at: usize) -> Idle
     ensures { result ≡ get_idle (drop at words.now) }
 {
@@ -67,7 +71,8 @@ pub fn get_idle(words: &[u32], at: usize) -> Idle
 }
 
 pub fn put_kr(tape: &mut [u32; 65], at: usize, s: Kr) -> usize
-    ensures { Adds at tape.old (words_kr s) result tape.new × ((rest : List ℕ) → get_kr (words_kr s ++ rest) ≡ s) }
+    ensures adds { Adds at tape.old (words_kr s) result tape.new }
+    ensures back { (rest : List ℕ) → get_kr (words_kr s ++ rest) ≡ s }
 {
     match s {
         Kr::First(idle) => {
@@ -89,6 +94,7 @@ pub fn put_kr(tape: &mut [u32; 65], at: usize, s: Kr) -> usize
     }
 }
 
+#[tactic(auto, unfolding(crate::specs::Sideband::get_kr))]
 pub fn get_kr(words: &[u32], at: usize) -> Kr
     ensures { result ≡ get_kr (drop at words.now) }
 {
@@ -105,7 +111,8 @@ pub fn get_kr(words: &[u32], at: usize) -> Kr
 }
 
 pub fn put_nvm(tape: &mut [u32; 65], at: usize, s: Nvm) -> usize
-    ensures { Adds at tape.old (words_nvm s) result tape.new × ((rest : List ℕ) → get_nvm (words_nvm s ++ rest) ≡ s) }
+    ensures adds { Adds at tape.old (words_nvm s) result tape.new }
+    ensures back { (rest : List ℕ) → get_nvm (words_nvm s ++ rest) ≡ s }
 {
     match s {
         Nvm::Post(post) => {
@@ -119,6 +126,7 @@ pub fn put_nvm(tape: &mut [u32; 65], at: usize, s: Nvm) -> usize
     }
 }
 
+#[tactic(auto, unfolding(crate::specs::Sideband::get_nvm))]
 pub fn get_nvm(words: &[u32], at: usize) -> Nvm
     ensures { result ≡ get_nvm (drop at words.now) }
 {

@@ -14,7 +14,8 @@ use sync::set_mux::SetMux;
 use sync::sync::Sync;
 
 pub fn put_smbi(tape: &mut [u32; 65], at: usize, s: Smbi) -> usize
-    ensures { Adds at tape.old (words_smbi s) result tape.new × ((rest : List ℕ) → get_smbi (words_smbi s ++ rest) ≡ s) }
+    ensures adds { Adds at tape.old (words_smbi s) result tape.new }
+    ensures back { (rest : List ℕ) → get_smbi (words_smbi s ++ rest) ≡ s }
 {
     match s {
         Smbi::Reading(x) => {
@@ -28,6 +29,7 @@ pub fn put_smbi(tape: &mut [u32; 65], at: usize, s: Smbi) -> usize
     }
 }
 
+#[tactic(auto, unfolding(crate::specs::Sync::get_smbi))]
 pub fn get_smbi(words: &[u32], at: usize) -> Smbi
     ensures { result ≡ get_smbi (drop at words.now) }
 {
@@ -40,7 +42,8 @@ pub fn get_smbi(words: &[u32], at: usize) -> Smbi
 }
 
 pub fn put_clear(tape: &mut [u32; 65], at: usize, s: Clear) -> usize
-    ensures { Adds at tape.old (words_clear s) result tape.new × ((rest : List ℕ) → get_clear (words_clear s ++ rest) ≡ s) }
+    ensures adds { Adds at tape.old (words_clear s) result tape.new }
+    ensures back { (rest : List ℕ) → get_clear (words_clear s ++ rest) ≡ s }
 {
     match s {
         Clear::Reading => word(tape, at, 1),
@@ -48,6 +51,7 @@ pub fn put_clear(tape: &mut [u32; 65], at: usize, s: Clear) -> usize
     }
 }
 
+#[tactic(auto, unfolding(crate::specs::Sync::get_clear))]
 pub fn get_clear(words: &[u32], at: usize) -> Clear
     ensures { result ≡ get_clear (drop at words.now) }
 {
@@ -60,7 +64,8 @@ pub fn get_clear(words: &[u32], at: usize) -> Clear
 }
 
 pub fn put_lock(tape: &mut [u32; 65], at: usize, s: Lock) -> usize
-    ensures { Adds at tape.old (words_lock s) result tape.new × ((rest : List ℕ) → get_lock (words_lock s ++ rest) ≡ s) }
+    ensures adds { Adds at tape.old (words_lock s) result tape.new }
+    ensures back { (rest : List ℕ) → get_lock (words_lock s ++ rest) ≡ s }
 {
     match s {
         Lock::Smbi(smbi) => {
@@ -89,6 +94,7 @@ pub fn put_lock(tape: &mut [u32; 65], at: usize, s: Lock) -> usize
     }
 }
 
+#[tactic(auto, unfolding(crate::specs::Sync::get_lock))]
 pub fn get_lock(words: &[u32], at: usize) -> Lock
     ensures { result ≡ get_lock (drop at words.now) }
 {
@@ -107,7 +113,8 @@ pub fn get_lock(words: &[u32], at: usize) -> Lock
 }
 
 pub fn put_unlock(tape: &mut [u32; 65], at: usize, s: Unlock) -> usize
-    ensures { Adds at tape.old (words_unlock s) result tape.new × ((rest : List ℕ) → get_unlock (words_unlock s ++ rest) ≡ s) }
+    ensures adds { Adds at tape.old (words_unlock s) result tape.new }
+    ensures back { (rest : List ℕ) → get_unlock (words_unlock s ++ rest) ≡ s }
 {
     match s {
         Unlock::Sync(clear) => {
@@ -125,6 +132,7 @@ pub fn put_unlock(tape: &mut [u32; 65], at: usize, s: Unlock) -> usize
     }
 }
 
+#[tactic(auto, unfolding(crate::specs::Sync::get_unlock))]
 pub fn get_unlock(words: &[u32], at: usize) -> Unlock
     ensures { result ≡ get_unlock (drop at words.now) }
 {
@@ -139,7 +147,8 @@ pub fn get_unlock(words: &[u32], at: usize) -> Unlock
 }
 
 pub fn put_set_mux(tape: &mut [u32; 65], at: usize, s: SetMux) -> usize
-    ensures { Adds at tape.old (words_set_mux s) result tape.new × ((rest : List ℕ) → get_set_mux (words_set_mux s ++ rest) ≡ s) }
+    ensures adds { Adds at tape.old (words_set_mux s) result tape.new }
+    ensures back { (rest : List ℕ) → get_set_mux (words_set_mux s ++ rest) ≡ s }
 {
     match s {
         SetMux::Reading => word(tape, at, 1),
@@ -148,6 +157,7 @@ pub fn put_set_mux(tape: &mut [u32; 65], at: usize, s: SetMux) -> usize
     }
 }
 
+#[tactic(auto, unfolding(crate::specs::Sync::get_set_mux))]
 pub fn get_set_mux(words: &[u32], at: usize) -> SetMux
     ensures { result ≡ get_set_mux (drop at words.now) }
 {
@@ -162,7 +172,8 @@ pub fn get_set_mux(words: &[u32], at: usize) -> SetMux
 }
 
 pub fn put_acquire_bits(tape: &mut [u32; 65], at: usize, s: AcquireBits) -> usize
-    ensures { Adds at tape.old (words_acquire_bits s) result tape.new × ((rest : List ℕ) → get_acquire_bits (words_acquire_bits s ++ rest) ≡ s) }
+    ensures adds { Adds at tape.old (words_acquire_bits s) result tape.new }
+    ensures back { (rest : List ℕ) → get_acquire_bits (words_acquire_bits s ++ rest) ≡ s }
 {
     match s {
         AcquireBits::Locking(x, lock) => {
@@ -206,6 +217,7 @@ pub fn put_acquire_bits(tape: &mut [u32; 65], at: usize, s: AcquireBits) -> usiz
     }
 }
 
+#[tactic(auto, unfolding(crate::specs::Sync::get_acquire_bits))]
 pub fn get_acquire_bits(words: &[u32], at: usize) -> AcquireBits
     ensures { result ≡ get_acquire_bits (drop at words.now) }
 {
@@ -235,7 +247,8 @@ pub fn get_acquire_bits(words: &[u32], at: usize) -> AcquireBits
 }
 
 pub fn put_release_bits(tape: &mut [u32; 65], at: usize, s: ReleaseBits) -> usize
-    ensures { Adds at tape.old (words_release_bits s) result tape.new × ((rest : List ℕ) → get_release_bits (words_release_bits s ++ rest) ≡ s) }
+    ensures adds { Adds at tape.old (words_release_bits s) result tape.new }
+    ensures back { (rest : List ℕ) → get_release_bits (words_release_bits s ++ rest) ≡ s }
 {
     match s {
         ReleaseBits::Switching(set_mux) => {
@@ -265,6 +278,7 @@ pub fn put_release_bits(tape: &mut [u32; 65], at: usize, s: ReleaseBits) -> usiz
     }
 }
 
+#[tactic(auto, unfolding(crate::specs::Sync::get_release_bits))]
 pub fn get_release_bits(words: &[u32], at: usize) -> ReleaseBits
     ensures { result ≡ get_release_bits (drop at words.now) }
 {
@@ -286,7 +300,8 @@ pub fn get_release_bits(words: &[u32], at: usize) -> ReleaseBits
 }
 
 pub fn put_sync(tape: &mut [u32; 65], at: usize, s: Sync) -> usize
-    ensures { Adds at tape.old (words_sync s) result tape.new × ((rest : List ℕ) → get_sync (words_sync s ++ rest) ≡ s) }
+    ensures adds { Adds at tape.old (words_sync s) result tape.new }
+    ensures back { (rest : List ℕ) → get_sync (words_sync s ++ rest) ≡ s }
 {
     match s {
         Sync::Take(regs, y, acquire_bits) => {
@@ -306,6 +321,7 @@ pub fn put_sync(tape: &mut [u32; 65], at: usize, s: Sync) -> usize
     }
 }
 
+#[tactic(auto, unfolding(crate::specs::Sync::get_sync))]
 pub fn get_sync(words: &[u32], at: usize) -> Sync
     ensures { result ≡ get_sync (drop at words.now) }
 {

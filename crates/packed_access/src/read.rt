@@ -1,7 +1,8 @@
 // Words read from a place on; behind the end they are 0.
 ghost use Rattle.std.specs.Prelude.{◌≡◌, ◌%◌, drop};
-ghost use Rattle.packed_access.specs.Tape.{word_at, is as is_of, joined as joinedOf};
+ghost use Rattle.packed_access.specs.Tape.{word_at, is as is_of, joined as joined_of};
 
+#[tactic(auto, unfolding(crate::specs::Tape::word_at))]
 pub fn word_at(words: &[u32], at: usize, k: usize) -> u32
     ensures { result ≡ word_at (drop at words.now) k }
 {
@@ -45,7 +46,7 @@ pub fn is(w: u32) -> bool
 }
 
 pub fn joined(low: u32, high: u32) -> usize
-    ensures { result ≡ joinedOf low high }
+    ensures { result ≡ joined_of low high }
 {
     low as usize + high as usize * 4294967296
 }

@@ -47,13 +47,15 @@ pub fn long(tape: &mut [u32], at: usize, n: usize) -> usize
 }
 
 pub fn wide(h: u16) -> u32
-    ensures { (result ≡ h) × (h % 65536 ≡ h) }
+    ensures same { result ≡ h }
+    ensures fits { h % 65536 ≡ h }
 {
     h as u32
 }
 
 pub fn wide_byte(b: u8) -> u32
-    ensures { (result ≡ b) × (b % 256 ≡ b) }
+    ensures same { result ≡ b }
+    ensures fits { b % 256 ≡ b }
 {
     b as u32
 }

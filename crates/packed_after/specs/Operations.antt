@@ -1,28 +1,20 @@
 -- The words of operations's states: a kind from 1 on, its numbers, its parts, and zeros up to the type's width
-use Rattle.std.specs.Prelude.{ℕ, ◌+◌, ◌%◌, ◌/◌, List, [], ◌∷◌, ◌++◌, eqb, drop, replicate}
+use Rattle.std.specs.Prelude.{ℕ, ◌%◌, List, ◌∷◌, ◌++◌, eqb, drop, replicate}
 use Rattle.hardware.specs.Talk.{pick}
-use Rattle.packed_access.specs.Tape.{word_at, is, flag_of, joined}
+use Rattle.packed_access.specs.Tape.{word_at, is, flag_of}
 use Rattle.operations.specs.declared.After.TheVariants as afterv
 use Rattle.operations.specs.declared.After.{After}
 use Rattle.operations.specs.declared.kr_registers.Kr.TheVariants as krv
 use Rattle.operations.specs.declared.kr_registers.Kr.{Kr}
 use Rattle.operations.specs.declared.registers.Mdio.TheVariants as mdiov
 use Rattle.operations.specs.declared.registers.Mdio.{Mdio}
-use Rattle.packed_after.specs.Phy.{words_maybe_flag, get_maybe_flag}
-use Rattle.packed_after.specs.Watch.{words_poll, get_poll}
-use Rattle.packed_answers.specs.Answers.{words_internal, get_internal}
-use Rattle.packed_answers.specs.Answers.{words_maybe_status, get_maybe_status}
-use Rattle.packed_answers.specs.Answers.{words_maybe_word, get_maybe_word}
-use Rattle.packed_bringup.specs.Activity.{words_activity, get_activity}
-use Rattle.packed_bringup.specs.Bringup.{words_bringup, get_bringup}
-use Rattle.packed_bringup.specs.Kr.{words_kr_modify, get_kr_modify}
-use Rattle.packed_bringup.specs.Kr.{words_kr_place, get_kr_place}
-use Rattle.packed_bringup.specs.Phy.{words_advertise_place, get_advertise_place}
-use Rattle.packed_bringup.specs.Phy.{words_an_link, get_an_link}
-use Rattle.packed_bringup.specs.Phy.{words_clock, get_clock}
-use Rattle.packed_bringup.specs.Phy.{words_modify, get_modify}
-use Rattle.packed_bringup.specs.Phy.{words_probe, get_probe}
-use Rattle.packed_bringup.specs.Phy.{words_reset, get_reset}
+use Rattle.packed_after.specs.Phy.{get_maybe_flag, words_maybe_flag}
+use Rattle.packed_after.specs.Watch.{get_poll, words_poll}
+use Rattle.packed_answers.specs.Answers.{get_internal, get_maybe_status, get_maybe_word, words_internal, words_maybe_status, words_maybe_word}
+use Rattle.packed_bringup.specs.Activity.{get_activity, words_activity}
+use Rattle.packed_bringup.specs.Bringup.{get_bringup, words_bringup}
+use Rattle.packed_bringup.specs.Kr.{get_kr_modify, get_kr_place, words_kr_modify, words_kr_place}
+use Rattle.packed_bringup.specs.Phy.{get_advertise_place, get_an_link, get_clock, get_modify, get_probe, get_reset, words_advertise_place, words_an_link, words_clock, words_modify, words_probe, words_reset}
 
 -- 11 words
 unfoldable pub words_mdio : Mdio → List ℕ
@@ -30,7 +22,7 @@ words_mdio (mdiov.Modify register modify) = 1 ∷ register.phy ∷ register.devi
 words_mdio (mdiov.Probe x probe) = 2 ∷ x ∷ (words_probe probe) ++ (replicate 7 0)
 words_mdio (mdiov.Scan scan) = 3 ∷ scan.phy ∷ (words_probe scan.probe) ++ (replicate 7 0)
 words_mdio (mdiov.Reset x y reset) = 4 ∷ x ∷ (flag_of y) ∷ (words_reset reset) ++ (replicate 6 0)
-words_mdio (mdiov.AnLink x an-link) = 5 ∷ x ∷ (words_an_link an-link) ++ (replicate 8 0)
+words_mdio (mdiov.AnLink x an_link) = 5 ∷ x ∷ (words_an_link an_link) ++ (replicate 8 0)
 words_mdio (mdiov.Advertise advertised advertise) = 6 ∷ advertised.phy ∷ (flag_of advertised.speeds.g10) ∷ (flag_of advertised.speeds.g1) ∷ (flag_of advertised.speeds.m100) ∷ (flag_of advertised.veto) ∷ (words_maybe_flag advertised.nbase) ++ ((words_advertise_place advertise.place) ++ (words_modify advertise.modify))
 words_mdio (mdiov.Clock x clock) = 7 ∷ (flag_of x) ∷ (words_clock clock) ++ (replicate 8 0)
 
@@ -46,7 +38,7 @@ get_mdio s =
 
 -- 8 words
 unfoldable pub words_kr : Kr → List ℕ
-words_kr (krv.Modify change kr-modify) = 1 ∷ change.port0 ∷ change.keep ∷ change.set ∷ (words_kr_modify kr-modify) ++ (replicate 2 0)
+words_kr (krv.Modify change kr_modify) = 1 ∷ change.port0 ∷ change.keep ∷ change.set ∷ (words_kr_modify kr_modify) ++ (replicate 2 0)
 words_kr (krv.Sequence sequence) = 2 ∷ (words_kr_place sequence.place) ++ ((words_maybe_word sequence.first) ++ (words_kr_modify sequence.modify))
 
 unfoldable pub get_kr : List ℕ → Kr

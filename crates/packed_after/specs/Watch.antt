@@ -1,19 +1,18 @@
 -- The words of watch's states: a kind from 1 on, its numbers, its parts, and zeros up to the type's width
-use Rattle.std.specs.Prelude.{ℕ, ◌+◌, ◌%◌, ◌/◌, List, [], ◌∷◌, ◌++◌, eqb, drop, replicate}
+use Rattle.std.specs.Prelude.{ℕ, ◌%◌, List, ◌∷◌, ◌++◌, eqb, drop, replicate}
 use Rattle.hardware.specs.Talk.{pick}
-use Rattle.packed_access.specs.Tape.{word_at, is, flag_of, joined}
-use Rattle.packed_answers.specs.Answers.{words_maybe_word, get_maybe_word}
-use Rattle.packed_bringup.specs.Kr.{words_kr_modify, get_kr_modify}
-use Rattle.packed_bringup.specs.Kr.{words_kr_place, get_kr_place}
-use Rattle.packed_bringup.specs.Phy.{words_an_link, get_an_link}
+use Rattle.packed_access.specs.Tape.{word_at}
+use Rattle.packed_answers.specs.Answers.{get_maybe_word, words_maybe_word}
+use Rattle.packed_bringup.specs.Kr.{get_kr_modify, get_kr_place, words_kr_modify, words_kr_place}
+use Rattle.packed_bringup.specs.Phy.{get_an_link, words_an_link}
 use Rattle.watch.specs.declared.poll.Poll.TheVariants as pollv
 use Rattle.watch.specs.declared.poll.Poll.{Poll}
 
 -- 10 words
 unfoldable pub words_poll : Poll → List ℕ
-words_poll (pollv.First an-link) = 1 ∷ (words_an_link an-link) ++ (replicate 8 0)
+words_poll (pollv.First an_link) = 1 ∷ (words_an_link an_link) ++ (replicate 8 0)
 words_poll pollv.Status = 2 ∷ replicate 9 0
-words_poll (pollv.Second x an-link) = 3 ∷ x ∷ (words_an_link an-link) ++ (replicate 7 0)
+words_poll (pollv.Second x an_link) = 3 ∷ x ∷ (words_an_link an_link) ++ (replicate 7 0)
 words_poll (pollv.Force x y sequence) = 4 ∷ x ∷ y ∷ (words_kr_place sequence.place) ++ ((words_maybe_word sequence.first) ++ (words_kr_modify sequence.modify))
 
 unfoldable pub get_poll : List ℕ → Poll

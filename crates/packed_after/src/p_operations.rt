@@ -30,7 +30,8 @@ use phy::scan::Scan;
 use watch::store::Watch;
 
 pub fn put_mdio(tape: &mut [u32; 65], at: usize, s: Mdio) -> usize
-    ensures { Adds at tape.old (words_mdio s) result tape.new × ((rest : List ℕ) → get_mdio (words_mdio s ++ rest) ≡ s) }
+    ensures adds { Adds at tape.old (words_mdio s) result tape.new }
+    ensures back { (rest : List ℕ) → get_mdio (words_mdio s ++ rest) ≡ s }
 {
     match s {
         Mdio::Modify(register, modify) => {
@@ -93,6 +94,7 @@ pub fn put_mdio(tape: &mut [u32; 65], at: usize, s: Mdio) -> usize
     }
 }
 
+#[tactic(auto, unfolding(crate::specs::Operations::get_mdio))]
 pub fn get_mdio(words: &[u32], at: usize) -> Mdio
     ensures { result ≡ get_mdio (drop at words.now) }
 {
@@ -152,7 +154,8 @@ pub fn get_mdio(words: &[u32], at: usize) -> Mdio
 }
 
 pub fn put_kr(tape: &mut [u32; 65], at: usize, s: Kr) -> usize
-    ensures { Adds at tape.old (words_kr s) result tape.new × ((rest : List ℕ) → get_kr (words_kr s ++ rest) ≡ s) }
+    ensures adds { Adds at tape.old (words_kr s) result tape.new }
+    ensures back { (rest : List ℕ) → get_kr (words_kr s ++ rest) ≡ s }
 {
     match s {
         Kr::Modify(change, kr_modify) => {
@@ -175,6 +178,7 @@ pub fn put_kr(tape: &mut [u32; 65], at: usize, s: Kr) -> usize
     }
 }
 
+#[tactic(auto, unfolding(crate::specs::Operations::get_kr))]
 pub fn get_kr(words: &[u32], at: usize) -> Kr
     ensures { result ≡ get_kr (drop at words.now) }
 {
@@ -198,7 +202,8 @@ pub fn get_kr(words: &[u32], at: usize) -> Kr
 }
 
 pub fn put_after(tape: &mut [u32; 65], at: usize, s: After) -> usize
-    ensures { Adds at tape.old (words_after s) result tape.new × ((rest : List ℕ) → get_after (words_after s ++ rest) ≡ s) }
+    ensures adds { Adds at tape.old (words_after s) result tape.new }
+    ensures back { (rest : List ℕ) → get_after (words_after s ++ rest) ≡ s }
 {
     match s {
         After::Nothing => {
@@ -271,6 +276,7 @@ pub fn put_after(tape: &mut [u32; 65], at: usize, s: After) -> usize
     }
 }
 
+#[tactic(auto, unfolding(crate::specs::Operations::get_after))]
 pub fn get_after(words: &[u32], at: usize) -> After
     ensures { result ≡ get_after (drop at words.now) }
 {

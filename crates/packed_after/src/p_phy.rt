@@ -8,7 +8,8 @@ use packed_access::tape::{flag, word};
 use phy::advertise::MaybeFlag;
 
 pub fn put_maybe_flag(tape: &mut [u32; 65], at: usize, s: MaybeFlag) -> usize
-    ensures { Adds at tape.old (words_maybe_flag s) result tape.new × ((rest : List ℕ) → get_maybe_flag (words_maybe_flag s ++ rest) ≡ s) }
+    ensures adds { Adds at tape.old (words_maybe_flag s) result tape.new }
+    ensures back { (rest : List ℕ) → get_maybe_flag (words_maybe_flag s ++ rest) ≡ s }
 {
     match s {
         MaybeFlag::Nothing => {
@@ -22,6 +23,7 @@ pub fn put_maybe_flag(tape: &mut [u32; 65], at: usize, s: MaybeFlag) -> usize
     }
 }
 
+#[tactic(auto, unfolding(crate::specs::Phy::get_maybe_flag))]
 pub fn get_maybe_flag(words: &[u32], at: usize) -> MaybeFlag
     ensures { result ≡ get_maybe_flag (drop at words.now) }
 {

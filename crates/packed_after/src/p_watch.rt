@@ -12,7 +12,8 @@ use packed_bringup::p_phy::{get_an_link, put_an_link};
 use watch::poll::Poll;
 
 pub fn put_poll(tape: &mut [u32; 65], at: usize, s: Poll) -> usize
-    ensures { Adds at tape.old (words_poll s) result tape.new × ((rest : List ℕ) → get_poll (words_poll s ++ rest) ≡ s) }
+    ensures adds { Adds at tape.old (words_poll s) result tape.new }
+    ensures back { (rest : List ℕ) → get_poll (words_poll s ++ rest) ≡ s }
 {
     match s {
         Poll::First(an_link) => {
@@ -44,6 +45,7 @@ pub fn put_poll(tape: &mut [u32; 65], at: usize, s: Poll) -> usize
     }
 }
 
+#[tactic(auto, unfolding(crate::specs::Watch::get_poll))]
 pub fn get_poll(words: &[u32], at: usize) -> Poll
     ensures { result ≡ get_poll (drop at words.now) }
 {

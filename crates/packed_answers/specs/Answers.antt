@@ -1,7 +1,7 @@
 -- The words of answers's states: a kind from 1 on, its numbers, its parts, and zeros up to the type's width
-use Rattle.std.specs.Prelude.{ℕ, ◌+◌, ◌%◌, ◌/◌, List, [], ◌∷◌, ◌++◌, eqb, drop, replicate}
+use Rattle.std.specs.Prelude.{ℕ, ◌%◌, List, [], ◌∷◌, ◌++◌, eqb, drop, replicate}
 use Rattle.hardware.specs.Talk.{pick}
-use Rattle.packed_access.specs.Tape.{word_at, is, flag_of, joined}
+use Rattle.packed_access.specs.Tape.{word_at, is, flag_of}
 use Rattle.answers.specs.declared.Answer.TheVariants as answerv
 use Rattle.answers.specs.declared.Answer.{Answer}
 use Rattle.answers.specs.declared.Copper.TheVariants as copperv
@@ -20,9 +20,8 @@ use Rattle.answers.specs.declared.Setup553.TheVariants as setup553v
 use Rattle.answers.specs.declared.Setup553.{Setup553}
 use Rattle.answers.specs.declared.Value.TheVariants as valuev
 use Rattle.answers.specs.declared.Value.{Value}
-use Rattle.packed_access.specs.Hardware.{words_error, get_error}
-use Rattle.packed_answers.specs.Words.{words_link, get_link}
-use Rattle.packed_answers.specs.Words.{words_phy_id, get_phy_id}
+use Rattle.packed_access.specs.Hardware.{get_error, words_error}
+use Rattle.packed_answers.specs.Words.{get_link, get_phy_id, words_link, words_phy_id}
 
 -- 3 words
 unfoldable pub words_scanned : Scanned → List ℕ
@@ -49,9 +48,9 @@ unfoldable pub words_setup552 : Setup552 → List ℕ
 words_setup552 setup552v.Kx4 = 1 ∷ replicate 10 0
 words_setup552 setup552v.Xfi = 2 ∷ replicate 10 0
 words_setup552 setup552v.FirmwarePhy = 3 ∷ replicate 10 0
-words_setup552 (setup552v.Kr link-ctrl) = 4 ∷ link-ctrl ∷ replicate 9 0
+words_setup552 (setup552v.Kr link_ctrl) = 4 ∷ link_ctrl ∷ replicate 9 0
 words_setup552 setup552v.ManageabilityVeto = 5 ∷ replicate 10 0
-words_setup552 (setup552v.Copper copper-setup) = 6 ∷ copper-setup.x557.phy ∷ copper-setup.x557.id ∷ copper-setup.x557.sel ∷ (flag_of copper-setup.x557.unstalled) ∷ (flag_of copper-setup.x557.reset) ∷ (flag_of copper-setup.advertised.g10) ∷ (flag_of copper-setup.advertised.g1) ∷ (flag_of copper-setup.advertised.m100) ∷ (flag_of copper-setup.restarted) ∷ words_internal copper-setup.x557.internal
+words_setup552 (setup552v.Copper copper_setup) = 6 ∷ copper_setup.x557.phy ∷ copper_setup.x557.id ∷ copper_setup.x557.sel ∷ (flag_of copper_setup.x557.unstalled) ∷ (flag_of copper_setup.x557.reset) ∷ (flag_of copper_setup.advertised.g10) ∷ (flag_of copper_setup.advertised.g1) ∷ (flag_of copper_setup.advertised.m100) ∷ (flag_of copper_setup.restarted) ∷ words_internal copper_setup.x557.internal
 
 unfoldable pub get_setup552 : List ℕ → Setup552
 get_setup552 s =
@@ -74,12 +73,12 @@ get_maybe_word s =
 
 -- 12 words
 unfoldable pub words_setup553 : Setup553 → List ℕ
-words_setup553 (setup553v.Kr link-ctrl) = 1 ∷ link-ctrl ∷ replicate 10 0
+words_setup553 (setup553v.Kr link_ctrl) = 1 ∷ link_ctrl ∷ replicate 10 0
 words_setup553 (setup553v.Kr2500 sel) = 2 ∷ sel ∷ replicate 10 0
-words_setup553 (setup553v.Sgmii sgmii-setup) = 3 ∷ sgmii-setup.link_ctrl ∷ sgmii-setup.sgmii ∷ sgmii-setup.flx ∷ replicate 8 0
+words_setup553 (setup553v.Sgmii sgmii_setup) = 3 ∷ sgmii_setup.link_ctrl ∷ sgmii_setup.sgmii ∷ sgmii_setup.flx ∷ replicate 8 0
 words_setup553 setup553v.ManageabilityVeto = 4 ∷ replicate 11 0
 words_setup553 (setup553v.X557 setup552) = 5 ∷ words_setup552 setup552
-words_setup553 (setup553v.Firmware firmware-setup) = 6 ∷ firmware-setup.phy.id ∷ firmware-setup.phy.speeds ∷ (flag_of firmware-setup.overtemp) ∷ (words_maybe_word firmware-setup.internal) ++ (replicate 6 0)
+words_setup553 (setup553v.Firmware firmware_setup) = 6 ∷ firmware_setup.phy.id ∷ firmware_setup.phy.speeds ∷ (flag_of firmware_setup.overtemp) ∷ (words_maybe_word firmware_setup.internal) ++ (replicate 6 0)
 
 unfoldable pub get_setup553 : List ℕ → Setup553
 get_setup553 s =
@@ -120,7 +119,7 @@ words_value (valuev.Word x) = 3 ∷ x ∷ replicate 11 0
 words_value (valuev.Link link) = 4 ∷ (words_link link) ++ (replicate 9 0)
 words_value (valuev.Command status words) = 5 ∷ status ∷ words ∷ replicate 10 0
 words_value (valuev.Activity x) = 6 ∷ x.w0 ∷ x.w1 ∷ x.w2 ∷ x.w3 ∷ replicate 8 0
-words_value (valuev.Probe phy-id) = 7 ∷ (words_phy_id phy-id) ++ (replicate 10 0)
+words_value (valuev.Probe phy_id) = 7 ∷ (words_phy_id phy_id) ++ (replicate 10 0)
 words_value (valuev.Scan scanned) = 8 ∷ (words_scanned scanned) ++ (replicate 9 0)
 words_value (valuev.Abilities speeds) = 9 ∷ (flag_of speeds.g10) ∷ (flag_of speeds.g1) ∷ (flag_of speeds.m100) ∷ replicate 9 0
 words_value (valuev.X552 setup552) = 10 ∷ (words_setup552 setup552) ++ (0 ∷ [])

@@ -1,7 +1,7 @@
 -- The words of words's states: a kind from 1 on, its numbers, its parts, and zeros up to the type's width
-use Rattle.std.specs.Prelude.{ℕ, ◌+◌, ◌%◌, ◌/◌, List, [], ◌∷◌, ◌++◌, eqb, drop, replicate}
+use Rattle.std.specs.Prelude.{ℕ, List, [], ◌∷◌, eqb, drop, replicate}
 use Rattle.hardware.specs.Talk.{pick}
-use Rattle.packed_access.specs.Tape.{word_at, is, flag_of, joined}
+use Rattle.packed_access.specs.Tape.{word_at}
 use Rattle.words.specs.declared.link.Link.TheVariants as linkv
 use Rattle.words.specs.declared.link.Link.{Link}
 use Rattle.words.specs.declared.link.Megabits.TheVariants as megabitsv

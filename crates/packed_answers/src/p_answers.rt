@@ -13,7 +13,8 @@ use packed_access::read::{after, byte, half, is, word_at};
 use packed_access::tape::{flag, wide, wide_byte, word, zeros};
 
 pub fn put_scanned(tape: &mut [u32; 65], at: usize, s: Scanned) -> usize
-    ensures { Adds at tape.old (words_scanned s) result tape.new × ((rest : List ℕ) → get_scanned (words_scanned s ++ rest) ≡ s) }
+    ensures adds { Adds at tape.old (words_scanned s) result tape.new }
+    ensures back { (rest : List ℕ) → get_scanned (words_scanned s ++ rest) ≡ s }
 {
     match s {
         Scanned::Nothing => {
@@ -28,6 +29,7 @@ pub fn put_scanned(tape: &mut [u32; 65], at: usize, s: Scanned) -> usize
     }
 }
 
+#[tactic(auto, unfolding(crate::specs::Answers::get_scanned))]
 pub fn get_scanned(words: &[u32], at: usize) -> Scanned
     ensures { result ≡ get_scanned (drop at words.now) }
 {
@@ -40,7 +42,8 @@ pub fn get_scanned(words: &[u32], at: usize) -> Scanned
 }
 
 pub fn put_internal(tape: &mut [u32; 65], at: usize, s: Internal) -> usize
-    ensures { Adds at tape.old (words_internal s) result tape.new × ((rest : List ℕ) → get_internal (words_internal s ++ rest) ≡ s) }
+    ensures adds { Adds at tape.old (words_internal s) result tape.new }
+    ensures back { (rest : List ℕ) → get_internal (words_internal s ++ rest) ≡ s }
 {
     match s {
         Internal::Ixfi => word(tape, at, 1),
@@ -48,6 +51,7 @@ pub fn put_internal(tape: &mut [u32; 65], at: usize, s: Internal) -> usize
     }
 }
 
+#[tactic(auto, unfolding(crate::specs::Answers::get_internal))]
 pub fn get_internal(words: &[u32], at: usize) -> Internal
     ensures { result ≡ get_internal (drop at words.now) }
 {
@@ -60,7 +64,8 @@ pub fn get_internal(words: &[u32], at: usize) -> Internal
 }
 
 pub fn put_setup552(tape: &mut [u32; 65], at: usize, s: Setup552) -> usize
-    ensures { Adds at tape.old (words_setup552 s) result tape.new × ((rest : List ℕ) → get_setup552 (words_setup552 s ++ rest) ≡ s) }
+    ensures adds { Adds at tape.old (words_setup552 s) result tape.new }
+    ensures back { (rest : List ℕ) → get_setup552 (words_setup552 s ++ rest) ≡ s }
 {
     match s {
         Setup552::Kx4 => {
@@ -103,6 +108,7 @@ pub fn put_setup552(tape: &mut [u32; 65], at: usize, s: Setup552) -> usize
     }
 }
 
+#[tactic(auto, unfolding(crate::specs::Answers::get_setup552))]
 pub fn get_setup552(words: &[u32], at: usize) -> Setup552
     ensures { result ≡ get_setup552 (drop at words.now) }
 {
@@ -140,7 +146,8 @@ pub fn get_setup552(words: &[u32], at: usize) -> Setup552
 }
 
 pub fn put_maybe_word(tape: &mut [u32; 65], at: usize, s: MaybeWord) -> usize
-    ensures { Adds at tape.old (words_maybe_word s) result tape.new × ((rest : List ℕ) → get_maybe_word (words_maybe_word s ++ rest) ≡ s) }
+    ensures adds { Adds at tape.old (words_maybe_word s) result tape.new }
+    ensures back { (rest : List ℕ) → get_maybe_word (words_maybe_word s ++ rest) ≡ s }
 {
     match s {
         MaybeWord::Nothing => {
@@ -154,6 +161,7 @@ pub fn put_maybe_word(tape: &mut [u32; 65], at: usize, s: MaybeWord) -> usize
     }
 }
 
+#[tactic(auto, unfolding(crate::specs::Answers::get_maybe_word))]
 pub fn get_maybe_word(words: &[u32], at: usize) -> MaybeWord
     ensures { result ≡ get_maybe_word (drop at words.now) }
 {
@@ -166,7 +174,8 @@ pub fn get_maybe_word(words: &[u32], at: usize) -> MaybeWord
 }
 
 pub fn put_setup553(tape: &mut [u32; 65], at: usize, s: Setup553) -> usize
-    ensures { Adds at tape.old (words_setup553 s) result tape.new × ((rest : List ℕ) → get_setup553 (words_setup553 s ++ rest) ≡ s) }
+    ensures adds { Adds at tape.old (words_setup553 s) result tape.new }
+    ensures back { (rest : List ℕ) → get_setup553 (words_setup553 s ++ rest) ≡ s }
 {
     match s {
         Setup553::Kr { link_ctrl } => {
@@ -207,6 +216,7 @@ pub fn put_setup553(tape: &mut [u32; 65], at: usize, s: Setup553) -> usize
     }
 }
 
+#[tactic(auto, unfolding(crate::specs::Answers::get_setup553))]
 pub fn get_setup553(words: &[u32], at: usize) -> Setup553
     ensures { result ≡ get_setup553 (drop at words.now) }
 {
@@ -242,7 +252,8 @@ pub fn get_setup553(words: &[u32], at: usize) -> Setup553
 }
 
 pub fn put_copper(tape: &mut [u32; 65], at: usize, s: Copper) -> usize
-    ensures { Adds at tape.old (words_copper s) result tape.new × ((rest : List ℕ) → get_copper (words_copper s ++ rest) ≡ s) }
+    ensures adds { Adds at tape.old (words_copper s) result tape.new }
+    ensures back { (rest : List ℕ) → get_copper (words_copper s ++ rest) ≡ s }
 {
     match s {
         Copper::Down => {
@@ -260,6 +271,7 @@ pub fn put_copper(tape: &mut [u32; 65], at: usize, s: Copper) -> usize
     }
 }
 
+#[tactic(auto, unfolding(crate::specs::Answers::get_copper))]
 pub fn get_copper(words: &[u32], at: usize) -> Copper
     ensures { result ≡ get_copper (drop at words.now) }
 {
@@ -278,7 +290,8 @@ pub fn get_copper(words: &[u32], at: usize) -> Copper
 }
 
 pub fn put_maybe_status(tape: &mut [u32; 65], at: usize, s: MaybeStatus) -> usize
-    ensures { Adds at tape.old (words_maybe_status s) result tape.new × ((rest : List ℕ) → get_maybe_status (words_maybe_status s ++ rest) ≡ s) }
+    ensures adds { Adds at tape.old (words_maybe_status s) result tape.new }
+    ensures back { (rest : List ℕ) → get_maybe_status (words_maybe_status s ++ rest) ≡ s }
 {
     match s {
         MaybeStatus::Nothing => {
@@ -292,6 +305,7 @@ pub fn put_maybe_status(tape: &mut [u32; 65], at: usize, s: MaybeStatus) -> usiz
     }
 }
 
+#[tactic(auto, unfolding(crate::specs::Answers::get_maybe_status))]
 pub fn get_maybe_status(words: &[u32], at: usize) -> MaybeStatus
     ensures { result ≡ get_maybe_status (drop at words.now) }
 {
@@ -304,7 +318,8 @@ pub fn get_maybe_status(words: &[u32], at: usize) -> MaybeStatus
 }
 
 pub fn put_value(tape: &mut [u32; 65], at: usize, s: Value) -> usize
-    ensures { Adds at tape.old (words_value s) result tape.new × ((rest : List ℕ) → get_value (words_value s ++ rest) ≡ s) }
+    ensures adds { Adds at tape.old (words_value s) result tape.new }
+    ensures back { (rest : List ℕ) → get_value (words_value s ++ rest) ≡ s }
 {
     match s {
         Value::Nothing => {
@@ -380,6 +395,7 @@ pub fn put_value(tape: &mut [u32; 65], at: usize, s: Value) -> usize
     }
 }
 
+#[tactic(auto, unfolding(crate::specs::Answers::get_value))]
 pub fn get_value(words: &[u32], at: usize) -> Value
     ensures { result ≡ get_value (drop at words.now) }
 {
@@ -428,7 +444,8 @@ pub fn get_value(words: &[u32], at: usize) -> Value
 }
 
 pub fn put_answer(tape: &mut [u32; 65], at: usize, s: Answer) -> usize
-    ensures { Adds at tape.old (words_answer s) result tape.new × ((rest : List ℕ) → get_answer (words_answer s ++ rest) ≡ s) }
+    ensures adds { Adds at tape.old (words_answer s) result tape.new }
+    ensures back { (rest : List ℕ) → get_answer (words_answer s ++ rest) ≡ s }
 {
     match s {
         Answer::Ok(value) => {
@@ -443,6 +460,7 @@ pub fn put_answer(tape: &mut [u32; 65], at: usize, s: Answer) -> usize
     }
 }
 
+#[tactic(auto, unfolding(crate::specs::Answers::get_answer))]
 pub fn get_answer(words: &[u32], at: usize) -> Answer
     ensures { result ≡ get_answer (drop at words.now) }
 {

@@ -9,7 +9,8 @@ use words::link::{Link, Megabits};
 use words::phy::PhyId;
 
 pub fn put_megabits(tape: &mut [u32; 65], at: usize, s: Megabits) -> usize
-    ensures { Adds at tape.old (words_megabits s) result tape.new × ((rest : List ℕ) → get_megabits (words_megabits s ++ rest) ≡ s) }
+    ensures adds { Adds at tape.old (words_megabits s) result tape.new }
+    ensures back { (rest : List ℕ) → get_megabits (words_megabits s ++ rest) ≡ s }
 {
     match s {
         Megabits::Nothing => {
@@ -23,6 +24,7 @@ pub fn put_megabits(tape: &mut [u32; 65], at: usize, s: Megabits) -> usize
     }
 }
 
+#[tactic(auto, unfolding(crate::specs::Words::get_megabits))]
 pub fn get_megabits(words: &[u32], at: usize) -> Megabits
     ensures { result ≡ get_megabits (drop at words.now) }
 {
@@ -35,7 +37,8 @@ pub fn get_megabits(words: &[u32], at: usize) -> Megabits
 }
 
 pub fn put_link(tape: &mut [u32; 65], at: usize, s: Link) -> usize
-    ensures { Adds at tape.old (words_link s) result tape.new × ((rest : List ℕ) → get_link (words_link s ++ rest) ≡ s) }
+    ensures adds { Adds at tape.old (words_link s) result tape.new }
+    ensures back { (rest : List ℕ) → get_link (words_link s ++ rest) ≡ s }
 {
     match s {
         Link::Down => {
@@ -49,6 +52,7 @@ pub fn put_link(tape: &mut [u32; 65], at: usize, s: Link) -> usize
     }
 }
 
+#[tactic(auto, unfolding(crate::specs::Words::get_link))]
 pub fn get_link(words: &[u32], at: usize) -> Link
     ensures { result ≡ get_link (drop at words.now) }
 {
@@ -63,7 +67,8 @@ pub fn get_link(words: &[u32], at: usize) -> Link
 }
 
 pub fn put_phy_id(tape: &mut [u32; 65], at: usize, s: PhyId) -> usize
-    ensures { Adds at tape.old (words_phy_id s) result tape.new × ((rest : List ℕ) → get_phy_id (words_phy_id s ++ rest) ≡ s) }
+    ensures adds { Adds at tape.old (words_phy_id s) result tape.new }
+    ensures back { (rest : List ℕ) → get_phy_id (words_phy_id s ++ rest) ≡ s }
 {
     match s {
         PhyId::Nothing => {
@@ -77,6 +82,7 @@ pub fn put_phy_id(tape: &mut [u32; 65], at: usize, s: PhyId) -> usize
     }
 }
 
+#[tactic(auto, unfolding(crate::specs::Words::get_phy_id))]
 pub fn get_phy_id(words: &[u32], at: usize) -> PhyId
     ensures { result ≡ get_phy_id (drop at words.now) }
 {

@@ -1,21 +1,16 @@
 -- The words of bringup's states: a kind from 1 on, its numbers, its parts, and zeros up to the type's width
-use Rattle.std.specs.Prelude.{ℕ, ◌+◌, ◌%◌, ◌/◌, List, [], ◌∷◌, ◌++◌, eqb, drop, replicate}
+use Rattle.std.specs.Prelude.{ℕ, ◌%◌, List, [], ◌∷◌, ◌++◌, eqb, drop, replicate}
 use Rattle.hardware.specs.Talk.{pick}
-use Rattle.packed_access.specs.Tape.{word_at, is, flag_of, joined}
+use Rattle.packed_access.specs.Tape.{word_at, is, flag_of}
 use Rattle.bringup.specs.declared.Bringup.TheVariants as bringupv
 use Rattle.bringup.specs.declared.Bringup.{Bringup}
 use Rattle.bringup.specs.declared.Lane.TheVariants as lanev
 use Rattle.bringup.specs.declared.Lane.{Lane}
-use Rattle.packed_answers.specs.Answers.{words_internal, get_internal}
-use Rattle.packed_answers.specs.Answers.{words_maybe_word, get_maybe_word}
-use Rattle.packed_bringup.specs.Kr.{words_kr_modify, get_kr_modify}
-use Rattle.packed_bringup.specs.Kr.{words_kr_place, get_kr_place}
-use Rattle.packed_bringup.specs.Phy.{words_clock, get_clock}
-use Rattle.packed_bringup.specs.X552.{words_copper_link, get_copper_link}
-use Rattle.packed_bringup.specs.X552.{words_prepare_copper, get_prepare_copper}
-use Rattle.packed_bringup.specs.X553.{words_prepare_firmware, get_prepare_firmware}
-use Rattle.packed_bringup.specs.X553.{words_setup_firmware, get_setup_firmware}
-use Rattle.packed_bringup.specs.X553.{words_sgmii, get_sgmii}
+use Rattle.packed_answers.specs.Answers.{get_internal, get_maybe_word, words_internal, words_maybe_word}
+use Rattle.packed_bringup.specs.Kr.{get_kr_modify, get_kr_place, words_kr_modify, words_kr_place}
+use Rattle.packed_bringup.specs.Phy.{get_clock, words_clock}
+use Rattle.packed_bringup.specs.X552.{get_copper_link, get_prepare_copper, words_copper_link, words_prepare_copper}
+use Rattle.packed_bringup.specs.X553.{get_prepare_firmware, get_setup_firmware, get_sgmii, words_prepare_firmware, words_setup_firmware, words_sgmii}
 
 -- 2 words
 unfoldable pub words_lane : Lane → List ℕ
@@ -30,14 +25,14 @@ get_lane s =
 -- 18 words
 unfoldable pub words_bringup : Bringup → List ℕ
 words_bringup (bringupv.Clock x clock) = 1 ∷ (flag_of x) ∷ (words_clock clock) ++ (replicate 15 0)
-words_bringup (bringupv.Copper prepare-copper) = 2 ∷ (words_prepare_copper prepare-copper) ++ (replicate 10 0)
-words_bringup (bringupv.Firmware prepare-firmware) = 3 ∷ (words_prepare_firmware prepare-firmware) ++ (replicate 10 0)
+words_bringup (bringupv.Copper prepare_copper) = 2 ∷ (words_prepare_copper prepare_copper) ++ (replicate 10 0)
+words_bringup (bringupv.Firmware prepare_firmware) = 3 ∷ (words_prepare_firmware prepare_firmware) ++ (replicate 10 0)
 words_bringup (bringupv.Sel x) = 4 ∷ (flag_of x) ∷ replicate 16 0
 words_bringup (bringupv.Mmngc lane) = 5 ∷ (words_lane lane) ++ (replicate 15 0)
 words_bringup (bringupv.Kr sequence) = 6 ∷ (words_kr_place sequence.place) ++ ((words_maybe_word sequence.first) ++ ((words_kr_modify sequence.modify) ++ (replicate 10 0)))
 words_bringup (bringupv.Sgmii sgmii) = 7 ∷ (words_sgmii sgmii) ++ (replicate 6 0)
-words_bringup (bringupv.Link x557 copper-link) = 8 ∷ x557.phy ∷ x557.id ∷ x557.sel ∷ (flag_of x557.unstalled) ∷ (flag_of x557.reset) ∷ (words_internal x557.internal) ++ (words_copper_link copper-link)
-words_bringup (bringupv.SetupFirmware setup-firmware) = 9 ∷ (words_setup_firmware setup-firmware) ++ (replicate 5 0)
+words_bringup (bringupv.Link x557 copper_link) = 8 ∷ x557.phy ∷ x557.id ∷ x557.sel ∷ (flag_of x557.unstalled) ∷ (flag_of x557.reset) ∷ (words_internal x557.internal) ++ (words_copper_link copper_link)
+words_bringup (bringupv.SetupFirmware setup_firmware) = 9 ∷ (words_setup_firmware setup_firmware) ++ (replicate 5 0)
 
 unfoldable pub get_bringup : List ℕ → Bringup
 get_bringup s =

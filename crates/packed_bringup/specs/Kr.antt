@@ -1,7 +1,7 @@
 -- The words of kr's states: a kind from 1 on, its numbers, its parts, and zeros up to the type's width
-use Rattle.std.specs.Prelude.{ℕ, ◌+◌, ◌%◌, ◌/◌, List, [], ◌∷◌, ◌++◌, eqb, drop, replicate}
+use Rattle.std.specs.Prelude.{ℕ, List, [], ◌∷◌, eqb, replicate}
 use Rattle.hardware.specs.Talk.{pick}
-use Rattle.packed_access.specs.Tape.{word_at, is, flag_of, joined}
+use Rattle.packed_access.specs.Tape.{word_at, is, flag_of}
 use Rattle.kr.specs.declared.modify.KrModify.TheVariants as kr_modifyv
 use Rattle.kr.specs.declared.modify.KrModify.{KrModify}
 use Rattle.kr.specs.declared.sequence.KrPlace.TheVariants as kr_placev

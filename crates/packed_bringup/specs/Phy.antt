@@ -1,7 +1,7 @@
 -- The words of phy's states: a kind from 1 on, its numbers, its parts, and zeros up to the type's width
-use Rattle.std.specs.Prelude.{ℕ, ◌+◌, ◌%◌, ◌/◌, List, [], ◌∷◌, ◌++◌, eqb, drop, replicate}
+use Rattle.std.specs.Prelude.{ℕ, ◌%◌, List, [], ◌∷◌, eqb}
 use Rattle.hardware.specs.Talk.{pick}
-use Rattle.packed_access.specs.Tape.{word_at, is, flag_of, joined}
+use Rattle.packed_access.specs.Tape.{word_at}
 use Rattle.phy.specs.declared.advertise.AdvertisePlace.TheVariants as advertise_placev
 use Rattle.phy.specs.declared.advertise.AdvertisePlace.{AdvertisePlace}
 use Rattle.phy.specs.declared.an_link.AnLink.TheVariants as an_linkv

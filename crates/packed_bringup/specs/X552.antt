@@ -1,16 +1,10 @@
 -- The words of x552's states: a kind from 1 on, its numbers, its parts, and zeros up to the type's width
-use Rattle.std.specs.Prelude.{ℕ, ◌+◌, ◌%◌, ◌/◌, List, [], ◌∷◌, ◌++◌, eqb, drop, replicate}
+use Rattle.std.specs.Prelude.{ℕ, ◌%◌, List, [], ◌∷◌, ◌++◌, eqb, drop, replicate}
 use Rattle.hardware.specs.Talk.{pick}
-use Rattle.packed_access.specs.Tape.{word_at, is, flag_of, joined}
-use Rattle.packed_answers.specs.Answers.{words_maybe_word, get_maybe_word}
-use Rattle.packed_bringup.specs.Kr.{words_kr_modify, get_kr_modify}
-use Rattle.packed_bringup.specs.Kr.{words_kr_place, get_kr_place}
-use Rattle.packed_bringup.specs.Phy.{words_advertise_place, get_advertise_place}
-use Rattle.packed_bringup.specs.Phy.{words_an_link, get_an_link}
-use Rattle.packed_bringup.specs.Phy.{words_clock, get_clock}
-use Rattle.packed_bringup.specs.Phy.{words_modify, get_modify}
-use Rattle.packed_bringup.specs.Phy.{words_probe, get_probe}
-use Rattle.packed_bringup.specs.Phy.{words_reset, get_reset}
+use Rattle.packed_access.specs.Tape.{word_at, is, flag_of}
+use Rattle.packed_answers.specs.Answers.{get_maybe_word, words_maybe_word}
+use Rattle.packed_bringup.specs.Kr.{get_kr_modify, get_kr_place, words_kr_modify, words_kr_place}
+use Rattle.packed_bringup.specs.Phy.{get_advertise_place, get_an_link, get_clock, get_modify, get_probe, get_reset, words_advertise_place, words_an_link, words_clock, words_modify, words_probe, words_reset}
 use Rattle.x552.specs.declared.link.CopperLink.TheVariants as copper_linkv
 use Rattle.x552.specs.declared.link.CopperLink.{CopperLink}
 use Rattle.x552.specs.declared.prepare.PrepareCopper.TheVariants as prepare_copperv
@@ -42,7 +36,7 @@ words_copper_link copper_linkv.Abilities = 1 ∷ replicate 10 0
 words_copper_link (copper_linkv.Ixfi speeds sequence) = 2 ∷ (flag_of speeds.g10) ∷ (flag_of speeds.g1) ∷ (flag_of speeds.m100) ∷ (words_kr_place sequence.place) ++ ((words_maybe_word sequence.first) ++ (words_kr_modify sequence.modify))
 words_copper_link (copper_linkv.Waiting speeds y) = 3 ∷ (flag_of speeds.g10) ∷ (flag_of speeds.g1) ∷ (flag_of speeds.m100) ∷ y ∷ replicate 6 0
 words_copper_link (copper_linkv.Links speeds y) = 4 ∷ (flag_of speeds.g10) ∷ (flag_of speeds.g1) ∷ (flag_of speeds.m100) ∷ y ∷ replicate 6 0
-words_copper_link (copper_linkv.Linking speeds y an-link) = 5 ∷ (flag_of speeds.g10) ∷ (flag_of speeds.g1) ∷ (flag_of speeds.m100) ∷ y ∷ (words_an_link an-link) ++ (replicate 5 0)
+words_copper_link (copper_linkv.Linking speeds y an_link) = 5 ∷ (flag_of speeds.g10) ∷ (flag_of speeds.g1) ∷ (flag_of speeds.m100) ∷ y ∷ (words_an_link an_link) ++ (replicate 5 0)
 words_copper_link (copper_linkv.Advertise speeds advertise) = 6 ∷ (flag_of speeds.g10) ∷ (flag_of speeds.g1) ∷ (flag_of speeds.m100) ∷ (words_advertise_place advertise.place) ++ ((words_modify advertise.modify) ++ (replicate 4 0))
 
 unfoldable pub get_copper_link : List ℕ → CopperLink

@@ -1,11 +1,10 @@
 -- The words of x553's states: a kind from 1 on, its numbers, its parts, and zeros up to the type's width
-use Rattle.std.specs.Prelude.{ℕ, ◌+◌, ◌%◌, ◌/◌, List, [], ◌∷◌, ◌++◌, eqb, drop, replicate}
+use Rattle.std.specs.Prelude.{ℕ, ◌%◌, List, [], ◌∷◌, ◌++◌, eqb, drop, replicate}
 use Rattle.hardware.specs.Talk.{pick}
-use Rattle.packed_access.specs.Tape.{word_at, is, flag_of, joined}
-use Rattle.packed_answers.specs.Answers.{words_maybe_word, get_maybe_word}
-use Rattle.packed_bringup.specs.Activity.{words_activity, get_activity}
-use Rattle.packed_bringup.specs.Kr.{words_kr_modify, get_kr_modify}
-use Rattle.packed_bringup.specs.Kr.{words_kr_place, get_kr_place}
+use Rattle.packed_access.specs.Tape.{word_at, is, flag_of}
+use Rattle.packed_answers.specs.Answers.{get_maybe_word, words_maybe_word}
+use Rattle.packed_bringup.specs.Activity.{get_activity, words_activity}
+use Rattle.packed_bringup.specs.Kr.{get_kr_modify, get_kr_place, words_kr_modify, words_kr_place}
 use Rattle.x553.specs.declared.firmware.SetupFirmware.TheVariants as setup_firmwarev
 use Rattle.x553.specs.declared.firmware.SetupFirmware.{SetupFirmware}
 use Rattle.x553.specs.declared.prepare.FirmwarePlace.TheVariants as firmware_placev
@@ -32,7 +31,7 @@ get_firmware_place s =
 -- 7 words
 unfoldable pub words_prepare_firmware : PrepareFirmware → List ℕ
 words_prepare_firmware (prepare_firmwarev.Info activity) = 1 ∷ (words_activity activity) ++ (replicate 3 0)
-words_prepare_firmware (prepare_firmwarev.Then firmware-place firmware-phy activity) = 2 ∷ firmware-phy.id ∷ firmware-phy.speeds ∷ (words_firmware_place firmware-place) ++ (words_activity activity)
+words_prepare_firmware (prepare_firmwarev.Then firmware_place firmware_phy activity) = 2 ∷ firmware_phy.id ∷ firmware_phy.speeds ∷ (words_firmware_place firmware_place) ++ (words_activity activity)
 
 unfoldable pub get_prepare_firmware : List ℕ → PrepareFirmware
 get_prepare_firmware s =
@@ -41,10 +40,10 @@ get_prepare_firmware s =
 
 -- 11 words
 unfoldable pub words_sgmii : Sgmii → List ℕ
-words_sgmii (sgmiiv.Ctrl kr-modify) = 1 ∷ (words_kr_modify kr-modify) ++ (replicate 8 0)
-words_sgmii (sgmiiv.Force x kr-modify) = 2 ∷ x ∷ (words_kr_modify kr-modify) ++ (replicate 7 0)
-words_sgmii (sgmiiv.Lane x y kr-modify) = 3 ∷ x ∷ y ∷ (words_kr_modify kr-modify) ++ (replicate 6 0)
-words_sgmii (sgmiiv.Restart sgmii-setup sequence) = 4 ∷ sgmii-setup.link_ctrl ∷ sgmii-setup.sgmii ∷ sgmii-setup.flx ∷ (words_kr_place sequence.place) ++ ((words_maybe_word sequence.first) ++ (words_kr_modify sequence.modify))
+words_sgmii (sgmiiv.Ctrl kr_modify) = 1 ∷ (words_kr_modify kr_modify) ++ (replicate 8 0)
+words_sgmii (sgmiiv.Force x kr_modify) = 2 ∷ x ∷ (words_kr_modify kr_modify) ++ (replicate 7 0)
+words_sgmii (sgmiiv.Lane x y kr_modify) = 3 ∷ x ∷ y ∷ (words_kr_modify kr_modify) ++ (replicate 6 0)
+words_sgmii (sgmiiv.Restart sgmii_setup sequence) = 4 ∷ sgmii_setup.link_ctrl ∷ sgmii_setup.sgmii ∷ sgmii_setup.flx ∷ (words_kr_place sequence.place) ++ ((words_maybe_word sequence.first) ++ (words_kr_modify sequence.modify))
 
 unfoldable pub get_sgmii : List ℕ → Sgmii
 get_sgmii s =
@@ -55,10 +54,10 @@ get_sgmii s =
 
 -- 9 words
 unfoldable pub words_sgmii_an : SgmiiAn → List ℕ
-words_sgmii_an (sgmii_anv.Ctrl kr-modify) = 1 ∷ (words_kr_modify kr-modify) ++ (replicate 6 0)
-words_sgmii_an (sgmii_anv.Force x kr-modify) = 2 ∷ x ∷ (words_kr_modify kr-modify) ++ (replicate 5 0)
+words_sgmii_an (sgmii_anv.Ctrl kr_modify) = 1 ∷ (words_kr_modify kr_modify) ++ (replicate 6 0)
+words_sgmii_an (sgmii_anv.Force x kr_modify) = 2 ∷ x ∷ (words_kr_modify kr_modify) ++ (replicate 5 0)
 words_sgmii_an sgmii_anv.Again = 3 ∷ replicate 8 0
-words_sgmii_an (sgmii_anv.Lane kr-modify) = 4 ∷ (words_kr_modify kr-modify) ++ (replicate 6 0)
+words_sgmii_an (sgmii_anv.Lane kr_modify) = 4 ∷ (words_kr_modify kr_modify) ++ (replicate 6 0)
 words_sgmii_an (sgmii_anv.Restart x sequence) = 5 ∷ x ∷ (words_kr_place sequence.place) ++ ((words_maybe_word sequence.first) ++ (words_kr_modify sequence.modify))
 
 unfoldable pub get_sgmii_an : List ℕ → SgmiiAn
@@ -71,11 +70,11 @@ get_sgmii_an s =
 
 -- 12 words
 unfoldable pub words_setup_firmware : SetupFirmware → List ℕ
-words_setup_firmware (setup_firmwarev.Mmngc firmware-phy y) = 1 ∷ firmware-phy.id ∷ firmware-phy.speeds ∷ (flag_of y) ∷ replicate 8 0
-words_setup_firmware (setup_firmwarev.Internal firmware-phy sgmii-an) = 2 ∷ firmware-phy.id ∷ firmware-phy.speeds ∷ words_sgmii_an sgmii-an
-words_setup_firmware (setup_firmwarev.Link firmware-phy y activity) = 3 ∷ firmware-phy.id ∷ firmware-phy.speeds ∷ y ∷ (words_activity activity) ++ (replicate 5 0)
-words_setup_firmware (setup_firmwarev.Info firmware-phy y activity) = 4 ∷ firmware-phy.id ∷ firmware-phy.speeds ∷ y ∷ (words_activity activity) ++ (replicate 5 0)
-words_setup_firmware (setup_firmwarev.Down firmware-phy maybe-word activity) = 5 ∷ firmware-phy.id ∷ firmware-phy.speeds ∷ (words_maybe_word maybe-word) ++ ((words_activity activity) ++ (replicate 4 0))
+words_setup_firmware (setup_firmwarev.Mmngc firmware_phy y) = 1 ∷ firmware_phy.id ∷ firmware_phy.speeds ∷ (flag_of y) ∷ replicate 8 0
+words_setup_firmware (setup_firmwarev.Internal firmware_phy sgmii_an) = 2 ∷ firmware_phy.id ∷ firmware_phy.speeds ∷ words_sgmii_an sgmii_an
+words_setup_firmware (setup_firmwarev.Link firmware_phy y activity) = 3 ∷ firmware_phy.id ∷ firmware_phy.speeds ∷ y ∷ (words_activity activity) ++ (replicate 5 0)
+words_setup_firmware (setup_firmwarev.Info firmware_phy y activity) = 4 ∷ firmware_phy.id ∷ firmware_phy.speeds ∷ y ∷ (words_activity activity) ++ (replicate 5 0)
+words_setup_firmware (setup_firmwarev.Down firmware_phy maybe_word activity) = 5 ∷ firmware_phy.id ∷ firmware_phy.speeds ∷ (words_maybe_word maybe_word) ++ ((words_activity activity) ++ (replicate 4 0))
 
 unfoldable pub get_setup_firmware : List ℕ → SetupFirmware
 get_setup_firmware s =

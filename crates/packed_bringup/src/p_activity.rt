@@ -8,7 +8,8 @@ use packed_access::read::{byte, word_at};
 use packed_access::tape::{wide_byte, word};
 
 pub fn put_activity(tape: &mut [u32; 65], at: usize, s: Activity) -> usize
-    ensures { Adds at tape.old (words_activity s) result tape.new × ((rest : List ℕ) → get_activity (words_activity s ++ rest) ≡ s) }
+    ensures adds { Adds at tape.old (words_activity s) result tape.new }
+    ensures back { (rest : List ℕ) → get_activity (words_activity s ++ rest) ≡ s }
 {
     match s {
         Activity::Exchanging(x) => {
@@ -24,6 +25,7 @@ pub fn put_activity(tape: &mut [u32; 65], at: usize, s: Activity) -> usize
     }
 }
 
+#[tactic(auto, unfolding(crate::specs::Activity::get_activity))]
 pub fn get_activity(words: &[u32], at: usize) -> Activity
     ensures { result ≡ get_activity (drop at words.now) }
 {

@@ -18,7 +18,8 @@ use packed_access::tape::{flag, wide_byte, word, zeros};
 use packed_answers::p_answers::{get_internal, get_maybe_word, put_internal, put_maybe_word};
 
 pub fn put_lane(tape: &mut [u32; 65], at: usize, s: Lane) -> usize
-    ensures { Adds at tape.old (words_lane s) result tape.new × ((rest : List ℕ) → get_lane (words_lane s ++ rest) ≡ s) }
+    ensures adds { Adds at tape.old (words_lane s) result tape.new }
+    ensures back { (rest : List ℕ) → get_lane (words_lane s ++ rest) ≡ s }
 {
     match s {
         Lane::Kr(x) => {
@@ -32,6 +33,7 @@ pub fn put_lane(tape: &mut [u32; 65], at: usize, s: Lane) -> usize
     }
 }
 
+#[tactic(auto, unfolding(crate::specs::Bringup::get_lane))]
 pub fn get_lane(words: &[u32], at: usize) -> Lane
     ensures { result ≡ get_lane (drop at words.now) }
 {
@@ -44,7 +46,8 @@ pub fn get_lane(words: &[u32], at: usize) -> Lane
 }
 
 pub fn put_bringup(tape: &mut [u32; 65], at: usize, s: Bringup) -> usize
-    ensures { Adds at tape.old (words_bringup s) result tape.new × ((rest : List ℕ) → get_bringup (words_bringup s ++ rest) ≡ s) }
+    ensures adds { Adds at tape.old (words_bringup s) result tape.new }
+    ensures back { (rest : List ℕ) → get_bringup (words_bringup s ++ rest) ≡ s }
 {
     match s {
         Bringup::Clock(x, clock) => {
@@ -107,6 +110,7 @@ pub fn put_bringup(tape: &mut [u32; 65], at: usize, s: Bringup) -> usize
     }
 }
 
+#[tactic(auto, unfolding(crate::specs::Bringup::get_bringup))]
 pub fn get_bringup(words: &[u32], at: usize) -> Bringup
     ensures { result ≡ get_bringup (drop at words.now) }
 {

@@ -9,7 +9,8 @@ use packed_access::read::{is, word_at};
 use packed_access::tape::{flag, word, zeros};
 
 pub fn put_kr_place(tape: &mut [u32; 65], at: usize, s: KrPlace) -> usize
-    ensures { Adds at tape.old (words_kr_place s) result tape.new × ((rest : List ℕ) → get_kr_place (words_kr_place s ++ rest) ≡ s) }
+    ensures adds { Adds at tape.old (words_kr_place s) result tape.new }
+    ensures back { (rest : List ℕ) → get_kr_place (words_kr_place s ++ rest) ≡ s }
 {
     match s {
         KrPlace::Advertise(x, y) => {
@@ -53,6 +54,7 @@ pub fn put_kr_place(tape: &mut [u32; 65], at: usize, s: KrPlace) -> usize
     }
 }
 
+#[tactic(auto, unfolding(crate::specs::Kr::get_kr_place))]
 pub fn get_kr_place(words: &[u32], at: usize) -> KrPlace
     ensures { result ≡ get_kr_place (drop at words.now) }
 {
@@ -79,7 +81,8 @@ pub fn get_kr_place(words: &[u32], at: usize) -> KrPlace
 }
 
 pub fn put_kr_modify(tape: &mut [u32; 65], at: usize, s: KrModify) -> usize
-    ensures { Adds at tape.old (words_kr_modify s) result tape.new × ((rest : List ℕ) → get_kr_modify (words_kr_modify s ++ rest) ≡ s) }
+    ensures adds { Adds at tape.old (words_kr_modify s) result tape.new }
+    ensures back { (rest : List ℕ) → get_kr_modify (words_kr_modify s ++ rest) ≡ s }
 {
     match s {
         KrModify::Reading => {
@@ -93,6 +96,7 @@ pub fn put_kr_modify(tape: &mut [u32; 65], at: usize, s: KrModify) -> usize
     }
 }
 
+#[tactic(auto, unfolding(crate::specs::Kr::get_kr_modify))]
 pub fn get_kr_modify(words: &[u32], at: usize) -> KrModify
     ensures { result ≡ get_kr_modify (drop at words.now) }
 {

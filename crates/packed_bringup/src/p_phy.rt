@@ -13,7 +13,8 @@ use phy::probe::Probe;
 use phy::reset::Reset;
 
 pub fn put_clock(tape: &mut [u32; 65], at: usize, s: Clock) -> usize
-    ensures { Adds at tape.old (words_clock s) result tape.new × ((rest : List ℕ) → get_clock (words_clock s ++ rest) ≡ s) }
+    ensures adds { Adds at tape.old (words_clock s) result tape.new }
+    ensures back { (rest : List ℕ) → get_clock (words_clock s ++ rest) ≡ s }
 {
     match s {
         Clock::Reading => word(tape, at, 1),
@@ -21,6 +22,7 @@ pub fn put_clock(tape: &mut [u32; 65], at: usize, s: Clock) -> usize
     }
 }
 
+#[tactic(auto, unfolding(crate::specs::Phy::get_clock))]
 pub fn get_clock(words: &[u32], at: usize) -> Clock
     ensures { result ≡ get_clock (drop at words.now) }
 {
@@ -33,7 +35,8 @@ pub fn get_clock(words: &[u32], at: usize) -> Clock
 }
 
 pub fn put_probe(tape: &mut [u32; 65], at: usize, s: Probe) -> usize
-    ensures { Adds at tape.old (words_probe s) result tape.new × ((rest : List ℕ) → get_probe (words_probe s ++ rest) ≡ s) }
+    ensures adds { Adds at tape.old (words_probe s) result tape.new }
+    ensures back { (rest : List ℕ) → get_probe (words_probe s ++ rest) ≡ s }
 {
     match s {
         Probe::High => {
@@ -47,6 +50,7 @@ pub fn put_probe(tape: &mut [u32; 65], at: usize, s: Probe) -> usize
     }
 }
 
+#[tactic(auto, unfolding(crate::specs::Phy::get_probe))]
 pub fn get_probe(words: &[u32], at: usize) -> Probe
     ensures { result ≡ get_probe (drop at words.now) }
 {
@@ -59,7 +63,8 @@ pub fn get_probe(words: &[u32], at: usize) -> Probe
 }
 
 pub fn put_modify(tape: &mut [u32; 65], at: usize, s: Modify) -> usize
-    ensures { Adds at tape.old (words_modify s) result tape.new × ((rest : List ℕ) → get_modify (words_modify s ++ rest) ≡ s) }
+    ensures adds { Adds at tape.old (words_modify s) result tape.new }
+    ensures back { (rest : List ℕ) → get_modify (words_modify s ++ rest) ≡ s }
 {
     match s {
         Modify::Reading => {
@@ -73,6 +78,7 @@ pub fn put_modify(tape: &mut [u32; 65], at: usize, s: Modify) -> usize
     }
 }
 
+#[tactic(auto, unfolding(crate::specs::Phy::get_modify))]
 pub fn get_modify(words: &[u32], at: usize) -> Modify
     ensures { result ≡ get_modify (drop at words.now) }
 {
@@ -85,7 +91,8 @@ pub fn get_modify(words: &[u32], at: usize) -> Modify
 }
 
 pub fn put_reset(tape: &mut [u32; 65], at: usize, s: Reset) -> usize
-    ensures { Adds at tape.old (words_reset s) result tape.new × ((rest : List ℕ) → get_reset (words_reset s ++ rest) ≡ s) }
+    ensures adds { Adds at tape.old (words_reset s) result tape.new }
+    ensures back { (rest : List ℕ) → get_reset (words_reset s ++ rest) ≡ s }
 {
     match s {
         Reset::Starting => {
@@ -111,6 +118,7 @@ pub fn put_reset(tape: &mut [u32; 65], at: usize, s: Reset) -> usize
     }
 }
 
+#[tactic(auto, unfolding(crate::specs::Phy::get_reset))]
 pub fn get_reset(words: &[u32], at: usize) -> Reset
     ensures { result ≡ get_reset (drop at words.now) }
 {
@@ -129,7 +137,8 @@ pub fn get_reset(words: &[u32], at: usize) -> Reset
 }
 
 pub fn put_an_link(tape: &mut [u32; 65], at: usize, s: AnLink) -> usize
-    ensures { Adds at tape.old (words_an_link s) result tape.new × ((rest : List ℕ) → get_an_link (words_an_link s ++ rest) ≡ s) }
+    ensures adds { Adds at tape.old (words_an_link s) result tape.new }
+    ensures back { (rest : List ℕ) → get_an_link (words_an_link s ++ rest) ≡ s }
 {
     match s {
         AnLink::First => word(tape, at, 1),
@@ -137,6 +146,7 @@ pub fn put_an_link(tape: &mut [u32; 65], at: usize, s: AnLink) -> usize
     }
 }
 
+#[tactic(auto, unfolding(crate::specs::Phy::get_an_link))]
 pub fn get_an_link(words: &[u32], at: usize) -> AnLink
     ensures { result ≡ get_an_link (drop at words.now) }
 {
@@ -149,7 +159,8 @@ pub fn get_an_link(words: &[u32], at: usize) -> AnLink
 }
 
 pub fn put_advertise_place(tape: &mut [u32; 65], at: usize, s: AdvertisePlace) -> usize
-    ensures { Adds at tape.old (words_advertise_place s) result tape.new × ((rest : List ℕ) → get_advertise_place (words_advertise_place s ++ rest) ≡ s) }
+    ensures adds { Adds at tape.old (words_advertise_place s) result tape.new }
+    ensures back { (rest : List ℕ) → get_advertise_place (words_advertise_place s ++ rest) ≡ s }
 {
     match s {
         AdvertisePlace::Ten => word(tape, at, 1),
@@ -159,6 +170,7 @@ pub fn put_advertise_place(tape: &mut [u32; 65], at: usize, s: AdvertisePlace) -
     }
 }
 
+#[tactic(auto, unfolding(crate::specs::Phy::get_advertise_place))]
 pub fn get_advertise_place(words: &[u32], at: usize) -> AdvertisePlace
     ensures { result ≡ get_advertise_place (drop at words.now) }
 {

@@ -19,7 +19,8 @@ use x552::link::CopperLink;
 use x552::prepare::{Phy, PrepareCopper};
 
 pub fn put_prepare_copper(tape: &mut [u32; 65], at: usize, s: PrepareCopper) -> usize
-    ensures { Adds at tape.old (words_prepare_copper s) result tape.new × ((rest : List ℕ) → get_prepare_copper (words_prepare_copper s ++ rest) ≡ s) }
+    ensures adds { Adds at tape.old (words_prepare_copper s) result tape.new }
+    ensures back { (rest : List ℕ) → get_prepare_copper (words_prepare_copper s ++ rest) ≡ s }
 {
     match s {
         PrepareCopper::Clock(clock) => {
@@ -71,6 +72,7 @@ pub fn put_prepare_copper(tape: &mut [u32; 65], at: usize, s: PrepareCopper) -> 
     }
 }
 
+#[tactic(auto, unfolding(crate::specs::X552::get_prepare_copper))]
 pub fn get_prepare_copper(words: &[u32], at: usize) -> PrepareCopper
     ensures { result ≡ get_prepare_copper (drop at words.now) }
 {
@@ -118,7 +120,8 @@ pub fn get_prepare_copper(words: &[u32], at: usize) -> PrepareCopper
 }
 
 pub fn put_copper_link(tape: &mut [u32; 65], at: usize, s: CopperLink) -> usize
-    ensures { Adds at tape.old (words_copper_link s) result tape.new × ((rest : List ℕ) → get_copper_link (words_copper_link s ++ rest) ≡ s) }
+    ensures adds { Adds at tape.old (words_copper_link s) result tape.new }
+    ensures back { (rest : List ℕ) → get_copper_link (words_copper_link s ++ rest) ≡ s }
 {
     match s {
         CopperLink::Abilities => {
@@ -176,6 +179,7 @@ pub fn put_copper_link(tape: &mut [u32; 65], at: usize, s: CopperLink) -> usize
     }
 }
 
+#[tactic(auto, unfolding(crate::specs::X552::get_copper_link))]
 pub fn get_copper_link(words: &[u32], at: usize) -> CopperLink
     ensures { result ≡ get_copper_link (drop at words.now) }
 {

@@ -16,7 +16,8 @@ use x553::sgmii::Sgmii;
 use x553::sgmii_an::SgmiiAn;
 
 pub fn put_firmware_place(tape: &mut [u32; 65], at: usize, s: FirmwarePlace) -> usize
-    ensures { Adds at tape.old (words_firmware_place s) result tape.new × ((rest : List ℕ) → get_firmware_place (words_firmware_place s ++ rest) ≡ s) }
+    ensures adds { Adds at tape.old (words_firmware_place s) result tape.new }
+    ensures back { (rest : List ℕ) → get_firmware_place (words_firmware_place s ++ rest) ≡ s }
 {
     match s {
         FirmwarePlace::Reset => word(tape, at, 1),
@@ -25,6 +26,7 @@ pub fn put_firmware_place(tape: &mut [u32; 65], at: usize, s: FirmwarePlace) -> 
     }
 }
 
+#[tactic(auto, unfolding(crate::specs::X553::get_firmware_place))]
 pub fn get_firmware_place(words: &[u32], at: usize) -> FirmwarePlace
     ensures { result ≡ get_firmware_place (drop at words.now) }
 {
@@ -39,7 +41,8 @@ pub fn get_firmware_place(words: &[u32], at: usize) -> FirmwarePlace
 }
 
 pub fn put_prepare_firmware(tape: &mut [u32; 65], at: usize, s: PrepareFirmware) -> usize
-    ensures { Adds at tape.old (words_prepare_firmware s) result tape.new × ((rest : List ℕ) → get_prepare_firmware (words_prepare_firmware s ++ rest) ≡ s) }
+    ensures adds { Adds at tape.old (words_prepare_firmware s) result tape.new }
+    ensures back { (rest : List ℕ) → get_prepare_firmware (words_prepare_firmware s ++ rest) ≡ s }
 {
     match s {
         PrepareFirmware::Info(activity) => {
@@ -57,6 +60,7 @@ pub fn put_prepare_firmware(tape: &mut [u32; 65], at: usize, s: PrepareFirmware)
     }
 }
 
+#[tactic(auto, unfolding(crate::specs::X553::get_prepare_firmware))]
 pub fn get_prepare_firmware(words: &[u32], at: usize) -> PrepareFirmware
     ensures { result ≡ get_prepare_firmware (drop at words.now) }
 {
@@ -76,7 +80,8 @@ pub fn get_prepare_firmware(words: &[u32], at: usize) -> PrepareFirmware
 }
 
 pub fn put_sgmii(tape: &mut [u32; 65], at: usize, s: Sgmii) -> usize
-    ensures { Adds at tape.old (words_sgmii s) result tape.new × ((rest : List ℕ) → get_sgmii (words_sgmii s ++ rest) ≡ s) }
+    ensures adds { Adds at tape.old (words_sgmii s) result tape.new }
+    ensures back { (rest : List ℕ) → get_sgmii (words_sgmii s ++ rest) ≡ s }
 {
     match s {
         Sgmii::Ctrl(kr_modify) => {
@@ -112,6 +117,7 @@ pub fn put_sgmii(tape: &mut [u32; 65], at: usize, s: Sgmii) -> usize
     }
 }
 
+#[tactic(auto, unfolding(crate::specs::X553::get_sgmii))]
 pub fn get_sgmii(words: &[u32], at: usize) -> Sgmii
     ensures { result ≡ get_sgmii (drop at words.now) }
 {
@@ -146,7 +152,8 @@ pub fn get_sgmii(words: &[u32], at: usize) -> Sgmii
 }
 
 pub fn put_sgmii_an(tape: &mut [u32; 65], at: usize, s: SgmiiAn) -> usize
-    ensures { Adds at tape.old (words_sgmii_an s) result tape.new × ((rest : List ℕ) → get_sgmii_an (words_sgmii_an s ++ rest) ≡ s) }
+    ensures adds { Adds at tape.old (words_sgmii_an s) result tape.new }
+    ensures back { (rest : List ℕ) → get_sgmii_an (words_sgmii_an s ++ rest) ≡ s }
 {
     match s {
         SgmiiAn::Ctrl(kr_modify) => {
@@ -182,6 +189,7 @@ pub fn put_sgmii_an(tape: &mut [u32; 65], at: usize, s: SgmiiAn) -> usize
     }
 }
 
+#[tactic(auto, unfolding(crate::specs::X553::get_sgmii_an))]
 pub fn get_sgmii_an(words: &[u32], at: usize) -> SgmiiAn
     ensures { result ≡ get_sgmii_an (drop at words.now) }
 {
@@ -210,7 +218,8 @@ pub fn get_sgmii_an(words: &[u32], at: usize) -> SgmiiAn
 }
 
 pub fn put_setup_firmware(tape: &mut [u32; 65], at: usize, s: SetupFirmware) -> usize
-    ensures { Adds at tape.old (words_setup_firmware s) result tape.new × ((rest : List ℕ) → get_setup_firmware (words_setup_firmware s ++ rest) ≡ s) }
+    ensures adds { Adds at tape.old (words_setup_firmware s) result tape.new }
+    ensures back { (rest : List ℕ) → get_setup_firmware (words_setup_firmware s ++ rest) ≡ s }
 {
     match s {
         SetupFirmware::Mmngc(firmware_phy, y) => {
@@ -253,6 +262,7 @@ pub fn put_setup_firmware(tape: &mut [u32; 65], at: usize, s: SetupFirmware) -> 
     }
 }
 
+#[tactic(auto, unfolding(crate::specs::X553::get_setup_firmware))]
 pub fn get_setup_firmware(words: &[u32], at: usize) -> SetupFirmware
     ensures { result ≡ get_setup_firmware (drop at words.now) }
 {

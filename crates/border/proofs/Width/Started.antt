@@ -1,11 +1,11 @@
 -- How many words each state of started is
 use Prim.Native.Nat.{ℕ}
-use mathlib.Core.Path.{◌≡◌, refl}
+use mathlib.Core.Path.{◌≡◌}
 use mathlib.Core.List.{List, ◌++◌}
 use lib.ListN.{length, drop, length-append}
 use lib.Seq.{drop_at}
-use Rattle.started.specs.declared.operation.Place.{Place}
 use Rattle.started.specs.declared.operation.Place.TheVariants as placev
+use Rattle.started.specs.declared.operation.Place.{Place}
 use Rattle.border.specs.Started.{words_place}
 use Rattle.packed_access.proofs.Width.Access.{access_length}
 use Rattle.packed_access.proofs.Width.Hardware.{action_length}

@@ -4,22 +4,22 @@ use mathlib.Core.Path.{◌≡◌, refl}
 use mathlib.Core.List.{List, ◌++◌}
 use lib.ListN.{length, drop, length-append}
 use lib.Seq.{drop_at}
-use Rattle.access.specs.declared.access.Access.{Access}
 use Rattle.access.specs.declared.access.Access.TheVariants as accessv
-use Rattle.access.specs.declared.body.Body.{Body}
+use Rattle.access.specs.declared.access.Access.{Access}
 use Rattle.access.specs.declared.body.Body.TheVariants as bodyv
-use Rattle.access.specs.declared.body.Held.{Held}
+use Rattle.access.specs.declared.body.Body.{Body}
 use Rattle.access.specs.declared.body.Held.TheVariants as heldv
-use Rattle.access.specs.declared.hold.BitsPlace.{BitsPlace}
+use Rattle.access.specs.declared.body.Held.{Held}
 use Rattle.access.specs.declared.hold.BitsPlace.TheVariants as bits_placev
-use Rattle.access.specs.declared.hold.Hold.{Hold}
+use Rattle.access.specs.declared.hold.BitsPlace.{BitsPlace}
 use Rattle.access.specs.declared.hold.Hold.TheVariants as holdv
-use Rattle.access.specs.declared.hold.TokenPlace.{TokenPlace}
+use Rattle.access.specs.declared.hold.Hold.{Hold}
 use Rattle.access.specs.declared.hold.TokenPlace.TheVariants as token_placev
-use Rattle.access.specs.declared.locked.HoldPlace.{HoldPlace}
+use Rattle.access.specs.declared.hold.TokenPlace.{TokenPlace}
 use Rattle.access.specs.declared.locked.HoldPlace.TheVariants as hold_placev
-use Rattle.access.specs.declared.locked.Locked.{Locked}
+use Rattle.access.specs.declared.locked.HoldPlace.{HoldPlace}
 use Rattle.access.specs.declared.locked.Locked.TheVariants as lockedv
+use Rattle.access.specs.declared.locked.Locked.{Locked}
 use Rattle.packed_access.specs.Access.{words_held, words_hold_place, words_bits_place, words_token_place, words_hold, words_body, words_locked, words_access}
 use Rattle.packed_access.proofs.Width.Hardware.{unit_length, word_length}
 use Rattle.packed_access.proofs.Width.Hostif.{command_length, flag_length}
@@ -29,8 +29,8 @@ use Rattle.packed_access.proofs.Width.Sync.{sync_length}
 
 pub held_length : (s : Held) → length (words_held s) ≡ 4
 unfolding words_held
-held_length (heldv.Mdio x0) = simp (length-append, wanted_length)
-held_length (heldv.Kr x0) = simp (length-append, kr_wanted_length)
+held_length (heldv.Mdio x0) = simp wanted_length
+held_length (heldv.Kr x0) = simp kr_wanted_length
 held_length (heldv.Nvm x0) = refl
 
 pub drop_held : (s : Held) (rest : List ℕ) → drop 4 (words_held s ++ rest) ≡ rest
@@ -40,7 +40,7 @@ pub hold_place_length : (s : HoldPlace) → length (words_hold_place s) ≡ 7
 unfolding words_hold_place
 hold_place_length hold_placev.Alone = refl
 hold_place_length (hold_placev.Acquiring x0) = simp (length-append, held_length)
-hold_place_length (hold_placev.Releasing x0) = simp (length-append, word_length)
+hold_place_length (hold_placev.Releasing x0) = simp word_length
 
 pub drop_hold_place : (s : HoldPlace) (rest : List ℕ) → drop 7 (words_hold_place s ++ rest) ≡ rest
 drop_hold_place s rest = drop_at (words_hold_place s) rest 7 (hold_place_length s)
@@ -49,7 +49,7 @@ pub bits_place_length : (s : BitsPlace) → length (words_bits_place s) ≡ 8
 unfolding words_bits_place
 bits_place_length bits_placev.Plain = refl
 bits_place_length (bits_placev.Taking x0) = refl
-bits_place_length (bits_placev.Freeing x0 x1) = simp (length-append, flag_length)
+bits_place_length (bits_placev.Freeing x0 x1) = simp flag_length
 bits_place_length (bits_placev.Giving x0) = simp (length-append, unit_length)
 
 pub drop_bits_place : (s : BitsPlace) (rest : List ℕ) → drop 8 (words_bits_place s ++ rest) ≡ rest
@@ -95,7 +95,7 @@ access_length accessv.Reading = refl
 access_length accessv.Writing = refl
 access_length accessv.Waiting = refl
 access_length (accessv.Command x0 x1) = simp (length-append, command_length)
-access_length (accessv.Under x0 x1) = simp (length-append, locked_length)
+access_length (accessv.Under x0 x1) = simp locked_length
 
 pub drop_access : (s : Access) (rest : List ℕ) → drop 34 (words_access s ++ rest) ≡ rest
 drop_access s rest = drop_at (words_access s) rest 34 (access_length s)

@@ -2,18 +2,18 @@
 use Prim.Native.Nat.{ℕ}
 use mathlib.Core.Path.{◌≡◌, refl}
 use mathlib.Core.List.{List, ◌++◌}
-use lib.ListN.{length, drop, length-append}
+use lib.ListN.{length, drop}
 use lib.Seq.{drop_at}
-use Rattle.hardware.specs.declared.Action.{Action}
 use Rattle.hardware.specs.declared.Action.TheVariants as actionv
-use Rattle.hardware.specs.declared.Error.{Error}
+use Rattle.hardware.specs.declared.Action.{Action}
 use Rattle.hardware.specs.declared.Error.TheVariants as errorv
-use Rattle.hardware.specs.declared.Family.{Family}
+use Rattle.hardware.specs.declared.Error.{Error}
 use Rattle.hardware.specs.declared.Family.TheVariants as familyv
-use Rattle.hardware.specs.declared.Unit.{Unit}
+use Rattle.hardware.specs.declared.Family.{Family}
 use Rattle.hardware.specs.declared.Unit.TheVariants as unitv
-use Rattle.hardware.specs.declared.Word.{Word}
+use Rattle.hardware.specs.declared.Unit.{Unit}
 use Rattle.hardware.specs.declared.Word.TheVariants as wordv
+use Rattle.hardware.specs.declared.Word.{Word}
 use Rattle.packed_access.specs.Hardware.{words_error, words_action, words_family, words_word, words_unit}
 
 pub error_length : (s : Error) → length (words_error s) ≡ 5
@@ -55,7 +55,7 @@ drop_family s rest = drop_at (words_family s) rest 1 (family_length s)
 pub word_length : (s : Word) → length (words_word s) ≡ 6
 unfolding words_word
 word_length (wordv.Ok x0) = refl
-word_length (wordv.Err x0) = simp (length-append, error_length)
+word_length (wordv.Err x0) = simp error_length
 
 pub drop_word : (s : Word) (rest : List ℕ) → drop 6 (words_word s ++ rest) ≡ rest
 drop_word s rest = drop_at (words_word s) rest 6 (word_length s)
@@ -63,7 +63,7 @@ drop_word s rest = drop_at (words_word s) rest 6 (word_length s)
 pub unit_length : (s : Unit) → length (words_unit s) ≡ 6
 unfolding words_unit
 unit_length unitv.Ok = refl
-unit_length (unitv.Err x0) = simp (length-append, error_length)
+unit_length (unitv.Err x0) = simp error_length
 
 pub drop_unit : (s : Unit) (rest : List ℕ) → drop 6 (words_unit s ++ rest) ≡ rest
 drop_unit s rest = drop_at (words_unit s) rest 6 (unit_length s)

@@ -4,16 +4,16 @@ use mathlib.Core.Path.{◌≡◌, refl}
 use mathlib.Core.List.{List, ◌++◌}
 use lib.ListN.{length, drop, length-append}
 use lib.Seq.{drop_at}
-use Rattle.hostif.specs.declared.command.Command.{Command}
 use Rattle.hostif.specs.declared.command.Command.TheVariants as commandv
-use Rattle.hostif.specs.declared.command.CommandPlace.{CommandPlace}
+use Rattle.hostif.specs.declared.command.Command.{Command}
 use Rattle.hostif.specs.declared.command.CommandPlace.TheVariants as command_placev
-use Rattle.hostif.specs.declared.exchange.Exchange.{Exchange}
+use Rattle.hostif.specs.declared.command.CommandPlace.{CommandPlace}
 use Rattle.hostif.specs.declared.exchange.Exchange.TheVariants as exchangev
-use Rattle.hostif.specs.declared.post.Post.{Post}
+use Rattle.hostif.specs.declared.exchange.Exchange.{Exchange}
 use Rattle.hostif.specs.declared.post.Post.TheVariants as postv
-use Rattle.hostif.specs.declared.token.Flag.{Flag}
+use Rattle.hostif.specs.declared.post.Post.{Post}
 use Rattle.hostif.specs.declared.token.Flag.TheVariants as flagv
+use Rattle.hostif.specs.declared.token.Flag.{Flag}
 use Rattle.packed_access.specs.Hostif.{words_command_place, words_post, words_exchange, words_command, words_flag}
 use Rattle.packed_access.proofs.Width.Hardware.{error_length, word_length}
 use Rattle.packed_access.proofs.Width.Sync.{sync_length}
@@ -21,7 +21,7 @@ use Rattle.packed_access.proofs.Width.Sync.{sync_length}
 pub command_place_length : (s : CommandPlace) → length (words_command_place s) ≡ 7
 unfolding words_command_place
 command_place_length command_placev.Acquiring = refl
-command_place_length (command_placev.Releasing x0) = simp (length-append, word_length)
+command_place_length (command_placev.Releasing x0) = simp word_length
 
 pub drop_command_place : (s : CommandPlace) (rest : List ℕ) → drop 7 (words_command_place s ++ rest) ≡ rest
 drop_command_place s rest = drop_at (words_command_place s) rest 7 (command_place_length s)
@@ -41,7 +41,7 @@ drop_post s rest = drop_at (words_post s) rest 4 (post_length s)
 
 pub exchange_length : (s : Exchange) → length (words_exchange s) ≡ 5
 unfolding words_exchange
-exchange_length (exchangev.Post x0) = simp (length-append, post_length)
+exchange_length (exchangev.Post x0) = simp post_length
 exchange_length (exchangev.Head x0) = refl
 exchange_length (exchangev.Rest x0 x1 x2) = refl
 
@@ -59,7 +59,7 @@ drop_command s rest = drop_at (words_command s) rest 21 (command_length s)
 pub flag_length : (s : Flag) → length (words_flag s) ≡ 6
 unfolding words_flag
 flag_length (flagv.Ok x0) = refl
-flag_length (flagv.Err x0) = simp (length-append, error_length)
+flag_length (flagv.Err x0) = simp error_length
 
 pub drop_flag : (s : Flag) (rest : List ℕ) → drop 6 (words_flag s ++ rest) ≡ rest
 drop_flag s rest = drop_at (words_flag s) rest 6 (flag_length s)

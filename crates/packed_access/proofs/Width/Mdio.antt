@@ -4,14 +4,14 @@ use mathlib.Core.Path.{◌≡◌, refl}
 use mathlib.Core.List.{List, ◌++◌}
 use lib.ListN.{length, drop, length-append}
 use lib.Seq.{drop_at}
-use Rattle.mdio.specs.declared.cycle.Cycle.{Cycle}
 use Rattle.mdio.specs.declared.cycle.Cycle.TheVariants as cyclev
-use Rattle.mdio.specs.declared.mdio.Mdio.{Mdio}
+use Rattle.mdio.specs.declared.cycle.Cycle.{Cycle}
 use Rattle.mdio.specs.declared.mdio.Mdio.TheVariants as mdiov
-use Rattle.mdio.specs.declared.mdio.MdioPlace.{MdioPlace}
+use Rattle.mdio.specs.declared.mdio.Mdio.{Mdio}
 use Rattle.mdio.specs.declared.mdio.MdioPlace.TheVariants as mdio_placev
-use Rattle.mdio.specs.declared.mdio.Wanted.{Wanted}
+use Rattle.mdio.specs.declared.mdio.MdioPlace.{MdioPlace}
 use Rattle.mdio.specs.declared.mdio.Wanted.TheVariants as wantedv
+use Rattle.mdio.specs.declared.mdio.Wanted.{Wanted}
 use Rattle.packed_access.specs.Mdio.{words_wanted, words_mdio_place, words_cycle, words_mdio}
 
 pub wanted_length : (s : Wanted) → length (words_wanted s) ≡ 3

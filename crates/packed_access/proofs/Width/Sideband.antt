@@ -2,16 +2,16 @@
 use Prim.Native.Nat.{ℕ}
 use mathlib.Core.Path.{◌≡◌, refl}
 use mathlib.Core.List.{List, ◌++◌}
-use lib.ListN.{length, drop, length-append}
+use lib.ListN.{length, drop}
 use lib.Seq.{drop_at}
-use Rattle.sideband.specs.declared.idle.Idle.{Idle}
 use Rattle.sideband.specs.declared.idle.Idle.TheVariants as idlev
-use Rattle.sideband.specs.declared.kr.Kr.{Kr}
+use Rattle.sideband.specs.declared.idle.Idle.{Idle}
 use Rattle.sideband.specs.declared.kr.Kr.TheVariants as krv
-use Rattle.sideband.specs.declared.kr.KrWanted.{KrWanted}
+use Rattle.sideband.specs.declared.kr.Kr.{Kr}
 use Rattle.sideband.specs.declared.kr.KrWanted.TheVariants as kr_wantedv
-use Rattle.sideband.specs.declared.nvm.Nvm.{Nvm}
+use Rattle.sideband.specs.declared.kr.KrWanted.{KrWanted}
 use Rattle.sideband.specs.declared.nvm.Nvm.TheVariants as nvmv
+use Rattle.sideband.specs.declared.nvm.Nvm.{Nvm}
 use Rattle.packed_access.specs.Sideband.{words_kr_wanted, words_idle, words_kr, words_nvm}
 use Rattle.packed_access.proofs.Width.Hostif.{post_length}
 
@@ -33,9 +33,9 @@ drop_idle s rest = drop_at (words_idle s) rest 3 (idle_length s)
 
 pub sideband_kr_length : (s : Kr) → length (words_kr s) ≡ 4
 unfolding words_kr
-sideband_kr_length (krv.First x0) = simp (length-append, idle_length)
+sideband_kr_length (krv.First x0) = simp idle_length
 sideband_kr_length krv.Select = refl
-sideband_kr_length (krv.Second x0) = simp (length-append, idle_length)
+sideband_kr_length (krv.Second x0) = simp idle_length
 sideband_kr_length krv.Data = refl
 
 pub drop_sideband_kr : (s : Kr) (rest : List ℕ) → drop 4 (words_kr s ++ rest) ≡ rest
@@ -43,7 +43,7 @@ drop_sideband_kr s rest = drop_at (words_kr s) rest 4 (sideband_kr_length s)
 
 pub nvm_length : (s : Nvm) → length (words_nvm s) ≡ 5
 unfolding words_nvm
-nvm_length (nvmv.Post x0) = simp (length-append, post_length)
+nvm_length (nvmv.Post x0) = simp post_length
 nvm_length nvmv.Data = refl
 
 pub drop_nvm : (s : Nvm) (rest : List ℕ) → drop 5 (words_nvm s ++ rest) ≡ rest

@@ -4,22 +4,22 @@ use mathlib.Core.Path.{◌≡◌, refl}
 use mathlib.Core.List.{List, ◌++◌}
 use lib.ListN.{length, drop, length-append}
 use lib.Seq.{drop_at}
-use Rattle.sync.specs.declared.acquire_bits.AcquireBits.{AcquireBits}
 use Rattle.sync.specs.declared.acquire_bits.AcquireBits.TheVariants as acquire_bitsv
-use Rattle.sync.specs.declared.lock.Clear.{Clear}
+use Rattle.sync.specs.declared.acquire_bits.AcquireBits.{AcquireBits}
 use Rattle.sync.specs.declared.lock.Clear.TheVariants as clearv
-use Rattle.sync.specs.declared.lock.Lock.{Lock}
+use Rattle.sync.specs.declared.lock.Clear.{Clear}
 use Rattle.sync.specs.declared.lock.Lock.TheVariants as lockv
-use Rattle.sync.specs.declared.lock.Smbi.{Smbi}
+use Rattle.sync.specs.declared.lock.Lock.{Lock}
 use Rattle.sync.specs.declared.lock.Smbi.TheVariants as smbiv
-use Rattle.sync.specs.declared.lock.Unlock.{Unlock}
+use Rattle.sync.specs.declared.lock.Smbi.{Smbi}
 use Rattle.sync.specs.declared.lock.Unlock.TheVariants as unlockv
-use Rattle.sync.specs.declared.release_bits.ReleaseBits.{ReleaseBits}
+use Rattle.sync.specs.declared.lock.Unlock.{Unlock}
 use Rattle.sync.specs.declared.release_bits.ReleaseBits.TheVariants as release_bitsv
-use Rattle.sync.specs.declared.set_mux.SetMux.{SetMux}
+use Rattle.sync.specs.declared.release_bits.ReleaseBits.{ReleaseBits}
 use Rattle.sync.specs.declared.set_mux.SetMux.TheVariants as set_muxv
-use Rattle.sync.specs.declared.sync.Sync.{Sync}
+use Rattle.sync.specs.declared.set_mux.SetMux.{SetMux}
 use Rattle.sync.specs.declared.sync.Sync.TheVariants as syncv
+use Rattle.sync.specs.declared.sync.Sync.{Sync}
 use Rattle.packed_access.specs.Sync.{words_smbi, words_clear, words_lock, words_unlock, words_set_mux, words_acquire_bits, words_release_bits, words_sync}
 use Rattle.packed_access.proofs.Width.Hardware.{unit_length}
 
@@ -41,7 +41,7 @@ drop_clear s rest = drop_at (words_clear s) rest 1 (clear_length s)
 
 pub lock_length : (s : Lock) → length (words_lock s) ≡ 3
 unfolding words_lock
-lock_length (lockv.Smbi x0) = simp (length-append, smbi_length)
+lock_length (lockv.Smbi x0) = simp smbi_length
 lock_length (lockv.Reading x0) = refl
 lock_length (lockv.Waiting x0) = refl
 lock_length (lockv.Clearing x0) = simp (length-append, clear_length)
@@ -52,8 +52,8 @@ drop_lock s rest = drop_at (words_lock s) rest 3 (lock_length s)
 
 pub unlock_length : (s : Unlock) → length (words_unlock s) ≡ 2
 unfolding words_unlock
-unlock_length (unlockv.Sync x0) = simp (length-append, clear_length)
-unlock_length (unlockv.Smbi x0) = simp (length-append, clear_length)
+unlock_length (unlockv.Sync x0) = simp clear_length
+unlock_length (unlockv.Smbi x0) = simp clear_length
 unlock_length unlockv.Flushing = refl
 
 pub drop_unlock : (s : Unlock) (rest : List ℕ) → drop 2 (words_unlock s ++ rest) ≡ rest
@@ -94,7 +94,7 @@ drop_release_bits s rest = drop_at (words_release_bits s) rest 9 (release_bits_l
 
 pub sync_length : (s : Sync) → length (words_sync s) ≡ 13
 unfolding words_sync
-sync_length (syncv.Take x0 x1 x2) = simp (length-append, acquire_bits_length)
+sync_length (syncv.Take x0 x1 x2) = simp acquire_bits_length
 sync_length (syncv.Give x0 x1) = simp (length-append, release_bits_length)
 
 pub drop_sync : (s : Sync) (rest : List ℕ) → drop 13 (words_sync s ++ rest) ≡ rest

@@ -4,12 +4,12 @@ use mathlib.Core.Path.{◌≡◌, refl}
 use mathlib.Core.List.{List, ◌++◌}
 use lib.ListN.{length, drop, length-append}
 use lib.Seq.{drop_at}
-use Rattle.operations.specs.declared.After.{After}
 use Rattle.operations.specs.declared.After.TheVariants as afterv
-use Rattle.operations.specs.declared.kr_registers.Kr.{Kr}
+use Rattle.operations.specs.declared.After.{After}
 use Rattle.operations.specs.declared.kr_registers.Kr.TheVariants as krv
-use Rattle.operations.specs.declared.registers.Mdio.{Mdio}
+use Rattle.operations.specs.declared.kr_registers.Kr.{Kr}
 use Rattle.operations.specs.declared.registers.Mdio.TheVariants as mdiov
+use Rattle.operations.specs.declared.registers.Mdio.{Mdio}
 use Rattle.packed_after.specs.Operations.{words_mdio, words_kr, words_after}
 use Rattle.packed_after.proofs.Width.Phy.{maybe_flag_length}
 use Rattle.packed_after.proofs.Width.Watch.{poll_length}
@@ -52,7 +52,7 @@ after_length (afterv.Token x0) = refl
 after_length (afterv.Activity x0 x1) = simp (length-append, activity_length)
 after_length (afterv.Mdio x0) = simp (length-append, operations_mdio_length)
 after_length (afterv.Kr x0) = simp (length-append, operations_kr_length)
-after_length (afterv.Bringup x0 x1) = simp (length-append, bringup_length)
+after_length (afterv.Bringup x0 x1) = simp bringup_length
 after_length (afterv.Poll x0 x1) = simp (length-append, internal_length, maybe_status_length, poll_length)
 
 pub drop_after : (s : After) (rest : List ℕ) → drop 20 (words_after s ++ rest) ≡ rest

@@ -2,10 +2,10 @@
 use Prim.Native.Nat.{ℕ}
 use mathlib.Core.Path.{◌≡◌, refl}
 use mathlib.Core.List.{List, ◌++◌}
-use lib.ListN.{length, drop, length-append}
+use lib.ListN.{length, drop}
 use lib.Seq.{drop_at}
-use Rattle.phy.specs.declared.advertise.MaybeFlag.{MaybeFlag}
 use Rattle.phy.specs.declared.advertise.MaybeFlag.TheVariants as maybe_flagv
+use Rattle.phy.specs.declared.advertise.MaybeFlag.{MaybeFlag}
 use Rattle.packed_after.specs.Phy.{words_maybe_flag}
 
 pub maybe_flag_length : (s : MaybeFlag) → length (words_maybe_flag s) ≡ 2

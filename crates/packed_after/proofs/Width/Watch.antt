@@ -4,8 +4,8 @@ use mathlib.Core.Path.{◌≡◌, refl}
 use mathlib.Core.List.{List, ◌++◌}
 use lib.ListN.{length, drop, length-append}
 use lib.Seq.{drop_at}
-use Rattle.watch.specs.declared.poll.Poll.{Poll}
 use Rattle.watch.specs.declared.poll.Poll.TheVariants as pollv
+use Rattle.watch.specs.declared.poll.Poll.{Poll}
 use Rattle.packed_after.specs.Watch.{words_poll}
 use Rattle.packed_answers.proofs.Width.Answers.{maybe_word_length}
 use Rattle.packed_bringup.proofs.Width.Kr.{kr_modify_length, kr_place_length}

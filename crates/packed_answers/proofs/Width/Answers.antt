@@ -4,24 +4,24 @@ use mathlib.Core.Path.{◌≡◌, refl}
 use mathlib.Core.List.{List, ◌++◌}
 use lib.ListN.{length, drop, length-append}
 use lib.Seq.{drop_at}
-use Rattle.answers.specs.declared.Answer.{Answer}
 use Rattle.answers.specs.declared.Answer.TheVariants as answerv
-use Rattle.answers.specs.declared.Copper.{Copper}
+use Rattle.answers.specs.declared.Answer.{Answer}
 use Rattle.answers.specs.declared.Copper.TheVariants as copperv
-use Rattle.answers.specs.declared.Internal.{Internal}
+use Rattle.answers.specs.declared.Copper.{Copper}
 use Rattle.answers.specs.declared.Internal.TheVariants as internalv
-use Rattle.answers.specs.declared.MaybeStatus.{MaybeStatus}
+use Rattle.answers.specs.declared.Internal.{Internal}
 use Rattle.answers.specs.declared.MaybeStatus.TheVariants as maybe_statusv
-use Rattle.answers.specs.declared.MaybeWord.{MaybeWord}
+use Rattle.answers.specs.declared.MaybeStatus.{MaybeStatus}
 use Rattle.answers.specs.declared.MaybeWord.TheVariants as maybe_wordv
-use Rattle.answers.specs.declared.Scanned.{Scanned}
+use Rattle.answers.specs.declared.MaybeWord.{MaybeWord}
 use Rattle.answers.specs.declared.Scanned.TheVariants as scannedv
-use Rattle.answers.specs.declared.Setup552.{Setup552}
+use Rattle.answers.specs.declared.Scanned.{Scanned}
 use Rattle.answers.specs.declared.Setup552.TheVariants as setup552v
-use Rattle.answers.specs.declared.Setup553.{Setup553}
+use Rattle.answers.specs.declared.Setup552.{Setup552}
 use Rattle.answers.specs.declared.Setup553.TheVariants as setup553v
-use Rattle.answers.specs.declared.Value.{Value}
+use Rattle.answers.specs.declared.Setup553.{Setup553}
 use Rattle.answers.specs.declared.Value.TheVariants as valuev
+use Rattle.answers.specs.declared.Value.{Value}
 use Rattle.packed_answers.specs.Answers.{words_scanned, words_internal, words_setup552, words_maybe_word, words_setup553, words_copper, words_maybe_status, words_value, words_answer}
 use Rattle.packed_access.proofs.Width.Hardware.{error_length}
 use Rattle.packed_answers.proofs.Width.Words.{link_length, phy_id_length}
@@ -49,7 +49,7 @@ setup552_length setup552v.Xfi = refl
 setup552_length setup552v.FirmwarePhy = refl
 setup552_length (setup552v.Kr x0) = refl
 setup552_length setup552v.ManageabilityVeto = refl
-setup552_length (setup552v.Copper x0) = simp (length-append, internal_length)
+setup552_length (setup552v.Copper x0) = simp internal_length
 
 pub drop_setup552 : (s : Setup552) (rest : List ℕ) → drop 11 (words_setup552 s ++ rest) ≡ rest
 drop_setup552 s rest = drop_at (words_setup552 s) rest 11 (setup552_length s)
@@ -68,7 +68,7 @@ setup553_length (setup553v.Kr x0) = refl
 setup553_length (setup553v.Kr2500 x0) = refl
 setup553_length (setup553v.Sgmii x0) = refl
 setup553_length setup553v.ManageabilityVeto = refl
-setup553_length (setup553v.X557 x0) = simp (length-append, setup552_length)
+setup553_length (setup553v.X557 x0) = simp setup552_length
 setup553_length (setup553v.Firmware x0) = simp (length-append, maybe_word_length)
 
 pub drop_setup553 : (s : Setup553) (rest : List ℕ) → drop 12 (words_setup553 s ++ rest) ≡ rest
@@ -103,7 +103,7 @@ value_length (valuev.Probe x0) = simp (length-append, phy_id_length)
 value_length (valuev.Scan x0) = simp (length-append, scanned_length)
 value_length (valuev.Abilities x0) = refl
 value_length (valuev.X552 x0) = simp (length-append, setup552_length)
-value_length (valuev.X553 x0) = simp (length-append, setup553_length)
+value_length (valuev.X553 x0) = simp setup553_length
 value_length (valuev.Poll x0 x1 x2) = simp (length-append, copper_length, maybe_status_length)
 
 pub drop_value : (s : Value) (rest : List ℕ) → drop 13 (words_value s ++ rest) ≡ rest
@@ -111,7 +111,7 @@ drop_value s rest = drop_at (words_value s) rest 13 (value_length s)
 
 pub answer_length : (s : Answer) → length (words_answer s) ≡ 14
 unfolding words_answer
-answer_length (answerv.Ok x0) = simp (length-append, value_length)
+answer_length (answerv.Ok x0) = simp value_length
 answer_length (answerv.Err x0) = simp (length-append, error_length)
 
 pub drop_answer : (s : Answer) (rest : List ℕ) → drop 14 (words_answer s ++ rest) ≡ rest

@@ -2,10 +2,10 @@
 use Prim.Native.Nat.{ℕ}
 use mathlib.Core.Path.{◌≡◌, refl}
 use mathlib.Core.List.{List, ◌++◌}
-use lib.ListN.{length, drop, length-append}
+use lib.ListN.{length, drop}
 use lib.Seq.{drop_at}
-use Rattle.activity.specs.declared.Activity.{Activity}
 use Rattle.activity.specs.declared.Activity.TheVariants as activityv
+use Rattle.activity.specs.declared.Activity.{Activity}
 use Rattle.packed_bringup.specs.Activity.{words_activity}
 
 pub activity_length : (s : Activity) → length (words_activity s) ≡ 3

@@ -4,10 +4,10 @@ use mathlib.Core.Path.{◌≡◌, refl}
 use mathlib.Core.List.{List, ◌++◌}
 use lib.ListN.{length, drop, length-append}
 use lib.Seq.{drop_at}
-use Rattle.bringup.specs.declared.Bringup.{Bringup}
 use Rattle.bringup.specs.declared.Bringup.TheVariants as bringupv
-use Rattle.bringup.specs.declared.Lane.{Lane}
+use Rattle.bringup.specs.declared.Bringup.{Bringup}
 use Rattle.bringup.specs.declared.Lane.TheVariants as lanev
+use Rattle.bringup.specs.declared.Lane.{Lane}
 use Rattle.packed_bringup.specs.Bringup.{words_lane, words_bringup}
 use Rattle.packed_answers.proofs.Width.Answers.{internal_length, maybe_word_length}
 use Rattle.packed_bringup.proofs.Width.Kr.{kr_modify_length, kr_place_length}

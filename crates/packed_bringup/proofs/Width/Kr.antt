@@ -2,12 +2,12 @@
 use Prim.Native.Nat.{ℕ}
 use mathlib.Core.Path.{◌≡◌, refl}
 use mathlib.Core.List.{List, ◌++◌}
-use lib.ListN.{length, drop, length-append}
+use lib.ListN.{length, drop}
 use lib.Seq.{drop_at}
-use Rattle.kr.specs.declared.modify.KrModify.{KrModify}
 use Rattle.kr.specs.declared.modify.KrModify.TheVariants as kr_modifyv
-use Rattle.kr.specs.declared.sequence.KrPlace.{KrPlace}
+use Rattle.kr.specs.declared.modify.KrModify.{KrModify}
 use Rattle.kr.specs.declared.sequence.KrPlace.TheVariants as kr_placev
+use Rattle.kr.specs.declared.sequence.KrPlace.{KrPlace}
 use Rattle.packed_bringup.specs.Kr.{words_kr_place, words_kr_modify}
 
 pub kr_place_length : (s : KrPlace) → length (words_kr_place s) ≡ 3

@@ -2,20 +2,20 @@
 use Prim.Native.Nat.{ℕ}
 use mathlib.Core.Path.{◌≡◌, refl}
 use mathlib.Core.List.{List, ◌++◌}
-use lib.ListN.{length, drop, length-append}
+use lib.ListN.{length, drop}
 use lib.Seq.{drop_at}
-use Rattle.phy.specs.declared.advertise.AdvertisePlace.{AdvertisePlace}
 use Rattle.phy.specs.declared.advertise.AdvertisePlace.TheVariants as advertise_placev
-use Rattle.phy.specs.declared.an_link.AnLink.{AnLink}
+use Rattle.phy.specs.declared.advertise.AdvertisePlace.{AdvertisePlace}
 use Rattle.phy.specs.declared.an_link.AnLink.TheVariants as an_linkv
-use Rattle.phy.specs.declared.clock.Clock.{Clock}
+use Rattle.phy.specs.declared.an_link.AnLink.{AnLink}
 use Rattle.phy.specs.declared.clock.Clock.TheVariants as clockv
-use Rattle.phy.specs.declared.modify.Modify.{Modify}
+use Rattle.phy.specs.declared.clock.Clock.{Clock}
 use Rattle.phy.specs.declared.modify.Modify.TheVariants as modifyv
-use Rattle.phy.specs.declared.probe.Probe.{Probe}
+use Rattle.phy.specs.declared.modify.Modify.{Modify}
 use Rattle.phy.specs.declared.probe.Probe.TheVariants as probev
-use Rattle.phy.specs.declared.reset.Reset.{Reset}
+use Rattle.phy.specs.declared.probe.Probe.{Probe}
 use Rattle.phy.specs.declared.reset.Reset.TheVariants as resetv
+use Rattle.phy.specs.declared.reset.Reset.{Reset}
 use Rattle.packed_bringup.specs.Phy.{words_clock, words_probe, words_modify, words_reset, words_an_link, words_advertise_place}
 
 pub clock_length : (s : Clock) → length (words_clock s) ≡ 1

@@ -4,10 +4,10 @@ use mathlib.Core.Path.{◌≡◌, refl}
 use mathlib.Core.List.{List, ◌++◌}
 use lib.ListN.{length, drop, length-append}
 use lib.Seq.{drop_at}
-use Rattle.x552.specs.declared.link.CopperLink.{CopperLink}
 use Rattle.x552.specs.declared.link.CopperLink.TheVariants as copper_linkv
-use Rattle.x552.specs.declared.prepare.PrepareCopper.{PrepareCopper}
+use Rattle.x552.specs.declared.link.CopperLink.{CopperLink}
 use Rattle.x552.specs.declared.prepare.PrepareCopper.TheVariants as prepare_copperv
+use Rattle.x552.specs.declared.prepare.PrepareCopper.{PrepareCopper}
 use Rattle.packed_bringup.specs.X552.{words_prepare_copper, words_copper_link}
 use Rattle.packed_answers.proofs.Width.Answers.{maybe_word_length}
 use Rattle.packed_bringup.proofs.Width.Kr.{kr_modify_length, kr_place_length}
@@ -21,7 +21,7 @@ prepare_copper_length (prepare_copperv.Probe x0 x1) = simp (length-append, probe
 prepare_copper_length (prepare_copperv.Scan x0 x1) = simp (length-append, probe_length)
 prepare_copper_length (prepare_copperv.Alarms x0) = refl
 prepare_copper_length (prepare_copperv.Unstall x0 x1) = simp (length-append, modify_length)
-prepare_copper_length (prepare_copperv.Reset x0 x1 x2) = simp (length-append, reset_length)
+prepare_copper_length (prepare_copperv.Reset x0 x1 x2) = simp reset_length
 
 pub drop_prepare_copper : (s : PrepareCopper) (rest : List ℕ) → drop 7 (words_prepare_copper s ++ rest) ≡ rest
 drop_prepare_copper s rest = drop_at (words_prepare_copper s) rest 7 (prepare_copper_length s)

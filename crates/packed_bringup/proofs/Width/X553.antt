@@ -4,16 +4,16 @@ use mathlib.Core.Path.{◌≡◌, refl}
 use mathlib.Core.List.{List, ◌++◌}
 use lib.ListN.{length, drop, length-append}
 use lib.Seq.{drop_at}
-use Rattle.x553.specs.declared.firmware.SetupFirmware.{SetupFirmware}
 use Rattle.x553.specs.declared.firmware.SetupFirmware.TheVariants as setup_firmwarev
-use Rattle.x553.specs.declared.prepare.FirmwarePlace.{FirmwarePlace}
+use Rattle.x553.specs.declared.firmware.SetupFirmware.{SetupFirmware}
 use Rattle.x553.specs.declared.prepare.FirmwarePlace.TheVariants as firmware_placev
-use Rattle.x553.specs.declared.prepare.PrepareFirmware.{PrepareFirmware}
+use Rattle.x553.specs.declared.prepare.FirmwarePlace.{FirmwarePlace}
 use Rattle.x553.specs.declared.prepare.PrepareFirmware.TheVariants as prepare_firmwarev
-use Rattle.x553.specs.declared.sgmii.Sgmii.{Sgmii}
+use Rattle.x553.specs.declared.prepare.PrepareFirmware.{PrepareFirmware}
 use Rattle.x553.specs.declared.sgmii.Sgmii.TheVariants as sgmiiv
-use Rattle.x553.specs.declared.sgmii_an.SgmiiAn.{SgmiiAn}
+use Rattle.x553.specs.declared.sgmii.Sgmii.{Sgmii}
 use Rattle.x553.specs.declared.sgmii_an.SgmiiAn.TheVariants as sgmii_anv
+use Rattle.x553.specs.declared.sgmii_an.SgmiiAn.{SgmiiAn}
 use Rattle.packed_bringup.specs.X553.{words_firmware_place, words_prepare_firmware, words_sgmii, words_sgmii_an, words_setup_firmware}
 use Rattle.packed_answers.proofs.Width.Answers.{maybe_word_length}
 use Rattle.packed_bringup.proofs.Width.Activity.{activity_length}
@@ -60,7 +60,7 @@ drop_sgmii_an s rest = drop_at (words_sgmii_an s) rest 9 (sgmii_an_length s)
 pub setup_firmware_length : (s : SetupFirmware) → length (words_setup_firmware s) ≡ 12
 unfolding words_setup_firmware
 setup_firmware_length (setup_firmwarev.Mmngc x0 x1) = refl
-setup_firmware_length (setup_firmwarev.Internal x0 x1) = simp (length-append, sgmii_an_length)
+setup_firmware_length (setup_firmwarev.Internal x0 x1) = simp sgmii_an_length
 setup_firmware_length (setup_firmwarev.Link x0 x1 x2) = simp (length-append, activity_length)
 setup_firmware_length (setup_firmwarev.Info x0 x1 x2) = simp (length-append, activity_length)
 setup_firmware_length (setup_firmwarev.Down x0 x1 x2) = simp (length-append, maybe_word_length, activity_length)

@@ -1,0 +1,16 @@
+use Rattle.packed_access.proofs.Laws.{then}
+use Rattle.packed_access.specs.Hardware.{words_action, get_action}
+use Rattle.packed_access.specs.Tape.{word_at}
+use Rattle.packed_access.proofs.p_hardware.put_action.Goals as goal
+
+pub returns-in-Read : goal.returns-in-Read
+unfolding words_action get_action word_at
+returns-in-Read c = record { adds = rw c.in-Read.is (then c.word-at.ensures (then c.word-at-in-Read.ensures c.word.ensures)); back = λ rest. simp c.in-Read.is }
+
+pub returns-in-Write : goal.returns-in-Write
+unfolding words_action get_action word_at
+returns-in-Write c = record { adds = rw c.in-Write.is (then c.word-at-in-Write.ensures (then c.word-at-in-Write-2.ensures c.word-in-Write.ensures)); back = λ rest. simp c.in-Write.is }
+
+pub returns-in-Wait : goal.returns-in-Wait
+unfolding words_action get_action word_at
+returns-in-Wait c = record { adds = rw c.in-Wait.is (then c.word-at-in-Wait.ensures (then c.word-at-in-Wait-2.ensures c.word-in-Wait.ensures)); back = λ rest. simp c.in-Wait.is }

@@ -1,0 +1,12 @@
+use Rattle.packed_access.proofs.Laws.{then, is_flag}
+use Rattle.packed_access.specs.Hostif.{words_flag, get_flag}
+use Rattle.packed_access.specs.Tape.{word_at}
+use Rattle.packed_access.proofs.p_hostif.put_flag.Goals as goal
+
+pub returns-in-Ok : goal.returns-in-Ok
+unfolding words_flag get_flag word_at
+returns-in-Ok c = record { adds = rw c.in-Ok.is (then c.word-at.ensures (then c.flag-at.ensures c.zeros.ensures)); back = λ rest. simp (c.in-Ok.is, is_flag) }
+
+pub returns-in-Err : goal.returns-in-Err
+unfolding words_flag get_flag word_at
+returns-in-Err c = record { adds = rw c.in-Err.is (then c.word-at-in-Err.ensures c.put_error.ensures.adds); back = λ rest. simp (c.in-Err.is, c.put_error.ensures.back) }

@@ -1,0 +1,11 @@
+use Rattle.packed_access.specs.Sync.{words_clear, get_clear}
+use Rattle.packed_access.specs.Tape.{word_at}
+use Rattle.packed_access.proofs.p_sync.put_clear.Goals as goal
+
+pub returns-in-Reading : goal.returns-in-Reading
+unfolding words_clear get_clear word_at
+returns-in-Reading c = record { adds = rw c.in-Reading.is c.word.ensures; back = λ rest. simp c.in-Reading.is }
+
+pub returns-in-Writing : goal.returns-in-Writing
+unfolding words_clear get_clear word_at
+returns-in-Writing c = record { adds = rw c.in-Writing.is c.word-in-Writing.ensures; back = λ rest. simp c.in-Writing.is }
