@@ -91,15 +91,6 @@ pub opens_err : (p : Port) (what : Operation) (ws : List ℕ) (a b : ℕ) (u : u
 unfolding opens outcome_of
 opens_err p what ws a b u e n x y g h k = rw (x, y, g, h, sym k, error_number_lem e) refl
 
--- what a test on `!` tells
-pub not-true : (b : Bool) → not b ≡ true → b ≡ false
-not-true true e = sym e
-not-true false e = refl
-
-pub not-false : (b : Bool) → not b ≡ false → b ≡ true
-not-false true e = refl
-not-false false e = sym e
-
 -- a step
 pub steps_none : (c : Held) (kind v : ℕ) → is_held c ≡ false → outcome_of 29 c ≡ steps c kind v
 unfolding steps outcome_of
