@@ -1,5 +1,5 @@
-// The part as C calls it (c/mansruoy.h). The caller holds a conversation as words, hands it in and gets it back by value; nothing
-// is kept here. No enum crosses.
+// The part as C calls it (c/mansruoy.h), under `border_c`, whose exports these are. The caller holds a conversation as words, hands it
+// in and gets it back by value; nothing is kept here. No enum crosses.
 #![tactic(auto)]
 
 pub mod held;
@@ -102,14 +102,7 @@ fn begin_at(port: Port, what: Operation, arguments: &[u32], n: usize) -> Stepped
 }
 
 // Begins the operation of this name, with the arguments of the tracer's second line.
-#[unsafe(no_mangle)]
-pub extern "C" fn mansruoy_begin(
-    family: u32,
-    device: u32,
-    lan: u32,
-    name: &[u8],
-    arguments: &[u32],
-) -> Stepped
+pub fn mansruoy_begin(family: u32, device: u32, lan: u32, name: &[u8], arguments: &[u32]) -> Stepped
     ensures { outcome_of result.number result.to ≡ begins (port_of family device lan) (by_name name.now arguments.now) arguments.now }
 {
     match port_of(family, device, lan) {
@@ -128,8 +121,7 @@ pub extern "C" fn mansruoy_begin(
 }
 
 // What the host is to do next.
-#[unsafe(no_mangle)]
-pub extern "C" fn mansruoy_action(c: Held) -> Asked
+pub fn mansruoy_action(c: Held) -> Asked
     ensures { result ≡ asks c }
 {
     if !is_held(c) {
@@ -159,8 +151,7 @@ pub extern "C" fn mansruoy_action(c: Held) -> Asked
 }
 
 // One action is answered with a reply's two words.
-#[unsafe(no_mangle)]
-pub extern "C" fn mansruoy_step(c: Held, kind: u32, value: u32) -> Stepped
+pub fn mansruoy_step(c: Held, kind: u32, value: u32) -> Stepped
     ensures { outcome_of result.number result.to ≡ steps c kind value }
 {
     if !is_held(c) {
@@ -226,8 +217,7 @@ fn no_answer(number: u32, actions: u64, micros: u64) -> Answered
 }
 
 // The answer of a conversation that has ended.
-#[unsafe(no_mangle)]
-pub extern "C" fn mansruoy_answer(c: Held) -> Answered
+pub fn mansruoy_answer(c: Held) -> Answered
     ensures { answered_of result ≡ answers c }
 {
     if !is_held(c) {
@@ -244,8 +234,7 @@ pub extern "C" fn mansruoy_answer(c: Held) -> Answered
 }
 
 // Runs a conversation over a script of replies, into a transcript from place `at` on.
-#[unsafe(no_mangle)]
-pub extern "C" fn mansruoy_run(c: Held, replies: &[u32], transcript: &mut [u32], at: usize) -> Ran
+pub fn mansruoy_run(c: Held, replies: &[u32], transcript: &mut [u32], at: usize) -> Ran
     ensures { ran_of result transcript.new ≡ runs c replies.now transcript.old at }
 {
     if !is_held(c) {
