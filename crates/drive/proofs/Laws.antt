@@ -2,7 +2,7 @@
 use Rattle.std.proofs.Common.{◌≡◌, ℕ, ◌+◌, ◌-◌, ◌%◌, ◌^◌, ◌<◌, ◌≤◌, List, length, drop, sym, refl, ap, ◌∙◌, subst, arith}
 use lib.Seq.{sets, length-sets}
 use Rattle.hardware.specs.Bound.{waited}
-use Rattle.hardware.specs.Talk.{Talk, ask, end, and_then}
+use Rattle.hardware.specs.Talk.{Talk, ask, and_then}
 use Rattle.hardware.specs.declared.Action.{Action}
 use Rattle.hardware.specs.declared.Action.TheVariants.{Read, Write, Wait}
 use Rattle.hardware.specs.declared.Reply.{Reply}

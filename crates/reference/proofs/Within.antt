@@ -4,7 +4,7 @@ use mathlib.Core.List.{List}
 use native.Mathlib.Omega.{arith}
 use native.Mathlib.Nat.{suc-mul}
 use Rattle.hardware.specs.Bound.{Within, at_end, at_ask}
-use Rattle.hardware.specs.Talk.{Talk, Call, Res, ok, err, end, and_then, or_stop, ◌>>=◌, attempt, times, read, read_raw, write, flush, delay}
+use Rattle.hardware.specs.Talk.{Talk, Call, Res, ok, err, end, and_then, ◌>>=◌, attempt, times, read, read_raw, write, flush, delay}
 use Rattle.hardware.specs.Block as blk
 use Rattle.hardware.specs.declared.Action.TheVariants as action
 use Rattle.hardware.proofs.Bounds.{within_more, within_then, within_stop}

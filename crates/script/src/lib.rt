@@ -22,7 +22,7 @@ pub enum Pair {
 // The place can be any number, so nothing is added to it before it is known to be in the script.
 #[tactic(auto, unfolding(crate::specs::Script::pair_at))]
 fn pair_at(replies: &[u32], at: usize) -> Pair
-    ensures { pair_at replies.now at ≡ result }
+    ensures { result ≡ pair_at replies.now at }
 {
     if replies.len() < at {
         return Pair::Nothing;
