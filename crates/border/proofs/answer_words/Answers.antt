@@ -1,5 +1,4 @@
 use mathlib.Core.Path.{sym}
-use borrow.Author.Rules.{rules}
 use Rattle.border.proofs.Laws.{counted}
 use Rattle.border.proofs.answer_words.Goals as goal
 

@@ -1,4 +1,3 @@
-use borrow.Author.Rules.{rules}
 use mathlib.Core.Path.{◌∙◌}
 use Rattle.border.proofs.Laws.{asks_none, asks_at}
 use Rattle.border.proofs.mansruoy_action.Goals as goal

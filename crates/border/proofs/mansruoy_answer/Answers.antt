@@ -1,4 +1,3 @@
-use borrow.Author.Rules.{rules}
 use mathlib.Core.Path.{◌∙◌}
 use Rattle.border.proofs.Laws.{answers_none, answers_at}
 use Rattle.border.proofs.mansruoy_answer.Goals as goal

@@ -1,4 +1,3 @@
-use borrow.Author.Rules.{rules}
 use mathlib.Core.Path.{refl, sym, ◌∙◌}
 use Rattle.border.proofs.Laws.{outcome_stayed}
 use Rattle.border.proofs.mansruoy_begin.Goals as goal

@@ -1,4 +1,3 @@
-use borrow.Author.Rules.{rules}
 use mathlib.Core.Path.{ap, ◌∙◌}
 use Rattle.conversation.specs.Conversation.{conv_of}
 use Rattle.conversation.specs.Run.{run_all}

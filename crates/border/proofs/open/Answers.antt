@@ -1,4 +1,3 @@
-use borrow.Author.Rules.{rules}
 use mathlib.Core.Path.{◌∙◌}
 use Rattle.border.proofs.Laws.{outcome_went, opens_ok, opens_err}
 use Rattle.border.proofs.open.Goals as goal

@@ -1,4 +1,3 @@
-use borrow.Author.Rules.{rules}
 use Rattle.border.specs.Held.{conversation_of}
 use Rattle.border.proofs.held.get_conversation.Goals as goal
 

@@ -1,4 +1,3 @@
-use borrow.Author.Rules.{rules}
 use mathlib.Core.Path.{refl}
 use Rattle.text.proofs.SameLaws.{same_self}
 use Rattle.border.specs.Held.{held_by, is_held}

@@ -1,4 +1,3 @@
-use borrow.Author.Rules.{rules}
 use mathlib.Core.Path.{sym, ◌∙◌}
 use Rattle.packed_access.specs.Tape.{word_at}
 use Rattle.packed_access.proofs.Laws.{then, filled, joined_back}

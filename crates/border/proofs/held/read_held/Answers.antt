@@ -1,4 +1,3 @@
-use borrow.Author.Rules.{rules}
 use Rattle.border.specs.Held.{held_by}
 use Rattle.border.proofs.held.read_held.Goals as goal
 

@@ -1,4 +1,3 @@
-use borrow.Author.Rules.{rules}
 use borrow.Author.Tests.{eq-eqb, ne_eqb, lt-ltb, le-ltb}
 use Rattle.border.specs.Port.{port_of}
 use Rattle.border.proofs.port.port_of.Goals as goal

@@ -1,7 +1,6 @@
-use Rattle.std.proofs.Common.{◌≡◌, ◌-◌, ◌≤◌, length, refl, arith, rules}
-use Rattle.drive.specs.Moves.{tape, Moves, stays}
+use Rattle.std.proofs.Common.{◌-◌, refl, arith, rules}
+use Rattle.drive.specs.Moves.{stays}
 use Rattle.drive.proofs.Laws.{then, from_as, moves_within}
-use Rattle.started.specs.Operation.{told}
 use Rattle.started.proofs.Laws.{told_at}
 use Rattle.conversation.proofs.Laws.{run_ended, run_full, run_dry}
 use Rattle.conversation.proofs.run.run_from.Goals as goal
