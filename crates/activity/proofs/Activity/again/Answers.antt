@@ -1,4 +1,3 @@
-use borrow.Author.Rules.{rules}
 use Rattle.hardware.proofs.Laws.{carry_more, carry_none}
 use Rattle.activity.proofs.Laws.{activity_cut}
 use Rattle.activity.proofs.Activity.again.Goals as goal

@@ -1,4 +1,3 @@
-use borrow.Author.Rules.{rules}
 use Rattle.reference.specs.Hostif.{phy_activity}
 use Rattle.activity.proofs.Laws.{activity_cut, fifty}
 use Rattle.activity.proofs.Activity.first.Goals as goal

@@ -1,8 +1,5 @@
 use mathlib.Core.List.{[], ◌∷◌}
 use mathlib.Core.Path.{◌∙◌}
-use borrow.Author.Rules.{rules}
-use native.Mathlib.Omega.{arith}
-use lib.ListN.{length-set}
 use Rattle.reference.specs.Hostif.{activity_block}
 use Rattle.hostif.proofs.Laws.{stored}
 use Rattle.activity.proofs.Activity.put.Goals as goal

@@ -1,4 +1,3 @@
-use borrow.Author.Rules.{rules}
 use Rattle.bringup.proofs.Laws.{bringup_clocked}
 use Rattle.bringup.proofs.Bringup.clocked.Goals as goal
 

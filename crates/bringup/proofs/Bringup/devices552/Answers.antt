@@ -1,5 +1,3 @@
-use borrow.Author.Rules.{rules}
-use borrow.Author.Tests.{ne_eqb}
 use Rattle.reference.proofs.Laws.{bind_assoc}
 use Rattle.bringup.proofs.Laws.{vetoed_then}
 use Rattle.bringup.proofs.Bringup.devices552.Goals as goal

@@ -1,6 +1,4 @@
 use mathlib.Core.Bool.{true, false}
-use borrow.Author.Rules.{rules}
-use borrow.Author.Tests.{ne_eqb}
 use Rattle.reference.proofs.Laws.{bind_assoc}
 use Rattle.bringup.proofs.Laws.{vetoed_then, backplane}
 use Rattle.bringup.proofs.Bringup.devices553.Goals as goal

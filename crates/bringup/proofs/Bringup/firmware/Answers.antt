@@ -1,6 +1,5 @@
 use Rattle.reference.specs.X553.{prepare_firmware}
 use Rattle.hardware.proofs.Laws.{then_assoc}
-use borrow.Author.Rules.{rules}
 use Rattle.bringup.proofs.Bringup.firmware.Goals as goal
 
 pub returns : goal.returns

@@ -1,6 +1,5 @@
 use Rattle.hardware.proofs.Laws.{then_assoc}
 use Rattle.reference.specs.X552.{kr_autoneg}
-use borrow.Author.Rules.{rules}
 use Rattle.bringup.proofs.Bringup.lane.Goals as goal
 
 pub returns-in-Kr : goal.returns-in-Kr

@@ -1,6 +1,5 @@
-use Rattle.std.proofs.Common.{◌≡◌, ◌-◌, ◌≤◌, length, replicate, ◌∙◌, zero-add, arith, rules}
-use lib.Seq.{paste, paste-zero, take-length}
-use Rattle.conversation.proofs.Laws.{copy_suc}
+use Rattle.std.proofs.Common.{◌≡◌, ◌-◌, ◌≤◌, length, replicate}
+use lib.Seq.{paste}
 use Rattle.conversation.proofs.conversation.copied.Given as goal
 
 abbrev pub invariant-loop-i : goal.invariant-loop-i

@@ -1,6 +1,5 @@
-use Rattle.std.proofs.Common.{◌≡◌, ◌-◌, ◌≤◌, length, sym, ◌∙◌, arith, rules, eq-eqb, ne_eqb}
-use lib.Seq.{paste, paste-zero}
-use Rattle.conversation.proofs.Laws.{copy_suc, copy_length, copy_all}
+use Rattle.std.proofs.Common.{◌≡◌, ◌-◌, ◌≤◌, length}
+use lib.Seq.{paste}
 use Rattle.conversation.proofs.conversation.give.Given as goal
 
 abbrev pub invariant-loop-i : goal.invariant-loop-i

@@ -1,4 +1,4 @@
-use Rattle.std.proofs.Common.{sym, le_of_lt, length-take-le, take_all, rules}
+use Rattle.std.proofs.Common.{sym, le_of_lt, length-take-le, take_all}
 use Rattle.conversation.proofs.conversation.give_first.Goals as goal
 
 pub returns-then-words-own : goal.returns-then-words-own

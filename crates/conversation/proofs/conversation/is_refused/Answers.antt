@@ -1,4 +1,4 @@
-use Rattle.std.proofs.Common.{rules, eq-eqb, ne_eqb}
+use Rattle.std.proofs.Common.{eq-eqb, ne_eqb}
 use Rattle.conversation.proofs.conversation.is_refused.Goals as goal
 
 pub returns-then-uses_of-eq0 : goal.returns-then-uses_of-eq0

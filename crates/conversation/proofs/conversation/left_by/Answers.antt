@@ -1,4 +1,3 @@
-use Rattle.std.proofs.Common.{rules}
 use Rattle.conversation.proofs.conversation.left_by.Goals as goal
 
 pub returns-in-Poll : goal.returns-in-Poll

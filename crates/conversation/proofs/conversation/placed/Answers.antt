@@ -1,4 +1,3 @@
-use Rattle.std.proofs.Common.{rules}
 use Rattle.conversation.proofs.conversation.placed.Goals as goal
 
 pub returns-in-Access : goal.returns-in-Access

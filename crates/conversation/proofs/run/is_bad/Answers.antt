@@ -1,5 +1,4 @@
-use Rattle.std.proofs.Common.{◌≡◌, ◌-◌, ◌≤◌, length, drop, ◌∙◌, arith, rules}
-use Rattle.conversation.specs.Run.{bad}
+use Rattle.std.proofs.Common.{◌∙◌, arith}
 use Rattle.conversation.proofs.Laws.{bad_end, bad_odd, bad_kind, bad_next}
 use Rattle.conversation.proofs.run.is_bad.Goals as goal
 

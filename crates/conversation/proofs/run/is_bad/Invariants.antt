@@ -1,6 +1,5 @@
-use Rattle.std.proofs.Common.{◌≡◌, ◌-◌, ◌≤◌, length, drop, ◌∙◌, arith, rules}
+use Rattle.std.proofs.Common.{◌≡◌, ◌-◌, ◌≤◌, length, drop}
 use Rattle.conversation.specs.Run.{bad}
-use Rattle.conversation.proofs.Laws.{bad_end, bad_odd, bad_kind, bad_next}
 use Rattle.conversation.proofs.run.is_bad.Given as goal
 
 abbrev pub invariant-loop-i : goal.invariant-loop-i

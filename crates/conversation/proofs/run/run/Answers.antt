@@ -1,4 +1,4 @@
-use Rattle.std.proofs.Common.{◌∙◌, arith, rules}
+use Rattle.std.proofs.Common.{◌∙◌, arith}
 use Rattle.conversation.specs.Conversation.{conv_of}
 use Rattle.conversation.proofs.Laws.{at_place, run_lent, within_part, all_ended, all_bad, all_full, all_run}
 use Rattle.conversation.proofs.run.run.Goals as goal

@@ -1,9 +1,6 @@
-use Rattle.std.proofs.Common.{◌≡◌, ◌-◌, ◌≤◌, length, refl, arith, rules}
-use Rattle.drive.specs.Moves.{tape, Moves, stays}
-use Rattle.drive.proofs.Laws.{then, from_as, moves_within}
+use Rattle.std.proofs.Common.{◌≡◌, ◌-◌, ◌≤◌, length}
+use Rattle.drive.specs.Moves.{tape, Moves}
 use Rattle.started.specs.Operation.{told}
-use Rattle.started.proofs.Laws.{told_at}
-use Rattle.conversation.proofs.Laws.{run_ended, run_full, run_dry}
 use Rattle.conversation.proofs.run.run_from.Given as goal
 
 abbrev pub invariant-loop-a : goal.invariant-loop-a

@@ -1,4 +1,3 @@
-use Rattle.std.proofs.Common.{arith, rules}
 use Rattle.conversation.proofs.run.run_on.Goals as goal
 
 pub returns : goal.returns

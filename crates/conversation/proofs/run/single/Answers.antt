@@ -1,4 +1,4 @@
-use Rattle.std.proofs.Common.{refl, arith, rules}
+use Rattle.std.proofs.Common.{refl}
 use Rattle.drive.specs.Moves.{tape}
 use Rattle.drive.proofs.Laws.{put_down}
 use Rattle.conversation.proofs.Laws.{one_moves}

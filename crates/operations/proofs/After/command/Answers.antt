@@ -1,4 +1,3 @@
-use borrow.Author.Rules.{rules}
 use Rattle.operations.proofs.After.command.Goals as goal
 
 pub returns-in-Err : goal.returns-in-Err

@@ -1,5 +1,4 @@
 use Rattle.reference.proofs.Hardware.{linked_document}
-use borrow.Author.Rules.{rules}
 use Rattle.operations.proofs.After.link.Goals as goal
 
 pub returns-in-Err : goal.returns-in-Err

@@ -1,5 +1,4 @@
 use mathlib.Core.Path.{sym, ap}
-use borrow.Author.Rules.{rules}
 use Rattle.access.specs.Body.{told_body}
 use Rattle.access.specs.declared.body.Body.{Body}
 use Rattle.drive.specs.Moves.{stays}

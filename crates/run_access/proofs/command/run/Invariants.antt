@@ -1,10 +1,8 @@
 use Prim.Native.Nat.{◌-◌}
-use mathlib.Core.Path.{◌≡◌, refl, ap}
-use borrow.Author.Rules.{rules}
+use mathlib.Core.Path.{◌≡◌}
 use lib.ListN.{length}
 use Rattle.hostif.specs.Command.{told_command}
-use Rattle.drive.specs.Moves.{tape, Moves, stays}
-use Rattle.drive.proofs.Laws.{then, told_as, moves_less}
+use Rattle.drive.specs.Moves.{tape, Moves}
 use Rattle.hostif.specs.declared.command.CommandStep.TheVariants as commandstep
 use Rattle.run_access.proofs.command.run.Given as goal
 

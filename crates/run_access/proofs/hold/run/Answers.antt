@@ -1,5 +1,4 @@
 use mathlib.Core.Path.{sym, ap}
-use borrow.Author.Rules.{rules}
 use Rattle.access.specs.Hold.{told_hold}
 use Rattle.access.specs.declared.hold.Hold.{Hold}
 use Rattle.drive.proofs.Laws.{told_as, from_as}

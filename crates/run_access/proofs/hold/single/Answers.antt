@@ -1,5 +1,4 @@
 use mathlib.Core.Path.{sym}
-use borrow.Author.Rules.{rules}
 use Rattle.drive.specs.Moves.{stays}
 use Rattle.drive.proofs.Laws.{act_short, act_done, told_as}
 use Rattle.run_access.proofs.hold.single.Goals as goal

@@ -1,5 +1,4 @@
 use mathlib.Core.Path.{sym, ap}
-use borrow.Author.Rules.{rules}
 use Rattle.reference.specs.Acquire.{release}
 use Rattle.reference.specs.Sync.{plain, held_done}
 use Rattle.access.specs.Locked.{told_locked}

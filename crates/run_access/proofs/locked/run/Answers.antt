@@ -1,11 +1,8 @@
-use Prim.Native.Nat.{◌-◌}
-use mathlib.Core.Path.{◌≡◌, refl, ap}
+use mathlib.Core.Path.{refl, ap}
 use borrow.Author.Rules.{rules}
-use lib.ListN.{length}
 use Rattle.access.specs.Locked.{told_locked}
-use Rattle.drive.specs.Moves.{tape, Moves, stays}
+use Rattle.drive.specs.Moves.{stays}
 use Rattle.drive.proofs.Laws.{then, told_as, moves_less}
-use Rattle.access.specs.declared.locked.LockedStep.TheVariants as lockedstep
 use Rattle.run_access.proofs.locked.run.Goals as goal
 
 pub loop-h-init : goal.loop-h-init

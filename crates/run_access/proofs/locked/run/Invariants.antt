@@ -1,10 +1,8 @@
 use Prim.Native.Nat.{◌-◌}
-use mathlib.Core.Path.{◌≡◌, refl, ap}
-use borrow.Author.Rules.{rules}
+use mathlib.Core.Path.{◌≡◌}
 use lib.ListN.{length}
 use Rattle.access.specs.Locked.{told_locked}
-use Rattle.drive.specs.Moves.{tape, Moves, stays}
-use Rattle.drive.proofs.Laws.{then, told_as, moves_less}
+use Rattle.drive.specs.Moves.{tape, Moves}
 use Rattle.access.specs.declared.locked.LockedStep.TheVariants as lockedstep
 use Rattle.run_access.proofs.locked.run.Given as goal
 

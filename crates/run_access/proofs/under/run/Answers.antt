@@ -1,6 +1,5 @@
 use mathlib.Core.List.{[]}
 use mathlib.Core.Path.{sym, ap}
-use borrow.Author.Rules.{rules}
 use Rattle.hardware.specs.Talk.{end}
 use Rattle.access.specs.Access.{told_access}
 use Rattle.access.specs.declared.access.Access.{Access}

@@ -1,5 +1,4 @@
 use Rattle.operations.proofs.Laws.{command_begun}
-use borrow.Author.Rules.{rules}
 use Rattle.start.proofs.start.command.Goals as goal
 
 pub returns : goal.returns

@@ -1,5 +1,4 @@
 use native.Mathlib.Nat.{le_of_lt}
-use borrow.Author.Rules.{rules}
 use lib.Seq.{length-take-le, take_all}
 use Rattle.start.proofs.start.count.Goals as goal
 

@@ -1,5 +1,4 @@
 use Rattle.reference.specs.X552.{kr_autoneg}
-use borrow.Author.Rules.{rules}
 use Rattle.start.proofs.start.kr_autoneg.Goals as goal
 
 pub returns : goal.returns

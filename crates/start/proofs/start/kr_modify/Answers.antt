@@ -1,4 +1,3 @@
-use borrow.Author.Rules.{rules}
 use Rattle.start.proofs.start.kr_modify.Goals as goal
 
 pub returns : goal.returns

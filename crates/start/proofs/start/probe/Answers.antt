@@ -1,4 +1,3 @@
-use borrow.Author.Rules.{rules}
 use Rattle.start.proofs.start.probe.Goals as goal
 
 pub returns : goal.returns

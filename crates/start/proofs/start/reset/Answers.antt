@@ -1,4 +1,3 @@
-use borrow.Author.Rules.{rules}
 use Rattle.start.proofs.start.reset.Goals as goal
 
 pub returns : goal.returns

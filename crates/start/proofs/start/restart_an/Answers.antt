@@ -1,5 +1,4 @@
 use Rattle.reference.specs.X552.{restart_an}
-use borrow.Author.Rules.{rules}
 use Rattle.start.proofs.start.restart_an.Goals as goal
 
 pub returns : goal.returns

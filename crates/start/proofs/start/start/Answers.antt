@@ -1,5 +1,4 @@
 use Rattle.operations.proofs.Laws.{nothing_begun}
-use borrow.Author.Rules.{rules}
 use Rattle.start.proofs.start.start.Goals as goal
 
 pub returns-in-Veto : goal.returns-in-Veto

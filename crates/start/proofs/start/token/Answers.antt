@@ -1,5 +1,4 @@
 use Rattle.operations.proofs.Laws.{token_begun}
-use borrow.Author.Rules.{rules}
 use Rattle.start.proofs.start.token.Goals as goal
 
 pub returns : goal.returns

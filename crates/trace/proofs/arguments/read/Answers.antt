@@ -1,5 +1,5 @@
-use Prim.Native.Nat.{ℕ, ◌+◌, ◌-◌, ◌≤◌}
-use mathlib.Core.Path.{◌≡◌, ap, sym, ◌∙◌}
+use Prim.Native.Nat.{ℕ, ◌+◌}
+use mathlib.Core.Path.{ap, sym, ◌∙◌}
 use mathlib.Core.List.{List}
 use native.Mathlib.Nat.{zero-add}
 use native.Mathlib.Omega.{arith}
@@ -7,7 +7,7 @@ use borrow.Author.Rules.{rules}
 use lib.ListN.{length, drop, length-set}
 use lib.Seq.{sets}
 use Rattle.text.specs.Words.{words, found}
-use Rattle.trace.specs.Arguments.{numbers, arguments_of}
+use Rattle.trace.specs.Arguments.{numbers}
 use Rattle.trace.proofs.ArgumentLaws.{arguments_from, none_left, no_number, no_value, one_read, one_kept}
 use Rattle.lines.proofs.Laws.{found_hex, place}
 use Rattle.trace.proofs.arguments.read.Goals as goal

@@ -1,4 +1,3 @@
-use borrow.Author.Rules.{rules}
 use Rattle.lines.proofs.Laws.{whole_is}
 use Rattle.trace.proofs.kinds.is_name.Goals as goal
 

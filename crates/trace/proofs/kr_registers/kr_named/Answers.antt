@@ -1,4 +1,3 @@
-use borrow.Author.Rules.{rules}
 use Rattle.trace.specs.Kr.{kr_name}
 use Rattle.trace.proofs.kr_registers.kr_named.Goals as goal
 

@@ -1,4 +1,3 @@
-use borrow.Author.Rules.{rules}
 use Rattle.trace.proofs.KindLaws.{takes_none, takes_word, all_words, none_done, word_next}
 use Rattle.trace.proofs.kr_registers.kr_read.Goals as goal
 

@@ -1,4 +1,3 @@
-use borrow.Author.Rules.{rules}
 use borrow.Author.Tests.{le-leb, lt-leb}
 use Rattle.trace.proofs.KindLaws.{takes_none, takes_half, all_words, none_done, half_next}
 use Rattle.trace.proofs.kr_registers.nvm_word.Goals as goal

@@ -1,5 +1,4 @@
 use Rattle.trace.specs.Kr.{rest_name}
-use borrow.Author.Rules.{rules}
 use Rattle.trace.proofs.kr_registers.rest_named.Goals as goal
 
 pub returns-then-is_name : goal.returns-then-is_name

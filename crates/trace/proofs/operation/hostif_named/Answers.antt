@@ -1,4 +1,3 @@
-use borrow.Author.Rules.{rules}
 use Rattle.trace.specs.Operation.{hostif_name}
 use Rattle.trace.proofs.operation.hostif_named.Goals as goal
 

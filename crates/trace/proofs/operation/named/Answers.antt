@@ -1,4 +1,3 @@
-use borrow.Author.Rules.{rules}
 use Rattle.trace.specs.Operation.{by_name}
 use Rattle.trace.proofs.operation.named.Goals as goal
 

@@ -1,4 +1,3 @@
-use borrow.Author.Rules.{rules}
 use borrow.Author.Tests.{le-leb, lt-leb}
 use Rattle.trace.proofs.KindLaws.{takes_none, takes_truth, all_words, none_done, truth_next}
 use Rattle.trace.proofs.operation.token.Goals as goal

@@ -1,4 +1,3 @@
-use borrow.Author.Rules.{rules}
 use Rattle.trace.proofs.KindLaws.{takes_none, takes_word, takes_truth, takes_maybe}
 use Rattle.trace.proofs.registers.advertise.Goals as goal
 

@@ -1,4 +1,3 @@
-use borrow.Author.Rules.{rules}
 use Rattle.trace.specs.Mdio.{mdio_name}
 use Rattle.trace.proofs.registers.mdio_named.Goals as goal
 

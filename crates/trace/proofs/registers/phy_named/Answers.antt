@@ -1,4 +1,3 @@
-use borrow.Author.Rules.{rules}
 use Rattle.trace.specs.Mdio.{phy_name}
 use Rattle.trace.proofs.registers.phy_named.Goals as goal
 

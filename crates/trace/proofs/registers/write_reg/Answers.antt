@@ -1,4 +1,3 @@
-use borrow.Author.Rules.{rules}
 use borrow.Author.Tests.{le-leb, lt-leb}
 use Rattle.trace.proofs.KindLaws.{takes_none, takes_word, takes_half, all_words, none_done, word_next, half_next}
 use Rattle.trace.proofs.registers.write_reg.Goals as goal

@@ -1,4 +1,3 @@
-use borrow.Author.Rules.{rules}
 use borrow.Author.Tests.{le-leb, lt-leb, ne_eqb}
 use Rattle.trace.proofs.KindLaws.{all_words, none_done, none_left, word_next, half_next, truth_next, status_next, both_bad}
 use Rattle.trace.proofs.setups.poll_five.Goals as goal

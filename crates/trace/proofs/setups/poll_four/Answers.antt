@@ -1,4 +1,3 @@
-use borrow.Author.Rules.{rules}
 use borrow.Author.Tests.{le-leb, lt-leb, ne_eqb}
 use Rattle.trace.proofs.KindLaws.{all_words, none_done, word_next, word_short, half_next, truth_next, status_next, both_bad}
 use Rattle.trace.proofs.setups.poll_four.Goals as goal

@@ -1,4 +1,3 @@
-use borrow.Author.Rules.{rules}
 use Rattle.trace.specs.Setups.{setup_name}
 use Rattle.trace.proofs.setups.setup_named.Goals as goal
 

@@ -1,4 +1,3 @@
-use Rattle.std.proofs.Common.{rules}
 use Rattle.conversation.proofs.conversation.Conversation.answered.Goals as goal
 
 pub returns : goal.returns

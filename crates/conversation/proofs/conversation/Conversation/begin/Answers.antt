@@ -1,4 +1,4 @@
-use Rattle.std.proofs.Common.{ap, ◌∙◌, rules}
+use Rattle.std.proofs.Common.{ap, ◌∙◌}
 use Rattle.hardware.proofs.Refusal.{taken}
 use Rattle.hardware.specs.Told.{unit_of}
 use Rattle.conversation.proofs.Laws.{not_refused}

@@ -1,4 +1,3 @@
-use Rattle.std.proofs.Common.{rules}
 use Rattle.conversation.proofs.conversation.Conversation.hand_back.Goals as goal
 
 pub returns-in-Asks : goal.returns-in-Asks

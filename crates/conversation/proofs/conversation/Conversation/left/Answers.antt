@@ -1,4 +1,3 @@
-use Rattle.std.proofs.Common.{rules}
 use Rattle.conversation.proofs.conversation.Conversation.left.Goals as goal
 
 pub returns-in-Asks : goal.returns-in-Asks

@@ -1,4 +1,4 @@
-use Rattle.std.proofs.Common.{◌∙◌, rules}
+use Rattle.std.proofs.Common.{◌∙◌}
 use Rattle.conversation.proofs.Laws.{at_place, step_refused, step_done}
 use Rattle.conversation.proofs.conversation.Conversation.step.Goals as goal
 

@@ -1,4 +1,3 @@
-use borrow.Author.Rules.{rules}
 use Rattle.operations.proofs.kr_registers.Kr.next.Goals as goal
 
 pub returns-in-Modify : goal.returns-in-Modify

@@ -1,5 +1,4 @@
 use mathlib.Core.Path.{◌≡◌, ap, sym, ◌∙◌}
-use borrow.Author.Rules.{rules}
 use Rattle.hardware.specs.Talk.{return}
 use Rattle.reference.specs.Operations.{after_reset, answer, nothing}
 use Rattle.reference.specs.X552.{mdio_clock}

@@ -1,5 +1,4 @@
 use Rattle.hardware.proofs.Laws.{then_assoc}
-use borrow.Author.Rules.{rules}
 use Rattle.operations.proofs.registers.Mdio.reset.Goals as goal
 
 pub returns-in-Ask : goal.returns-in-Ask

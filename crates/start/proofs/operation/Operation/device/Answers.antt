@@ -1,4 +1,3 @@
-use borrow.Author.Rules.{rules}
 use Rattle.start.specs.Operation.{device_of}
 use Rattle.start.proofs.operation.Operation.device.Goals as goal
 

@@ -1,4 +1,3 @@
-use borrow.Author.Rules.{rules}
 use Rattle.start.specs.Operation.{phy_of}
 use Rattle.start.proofs.operation.Operation.phy.Goals as goal
 

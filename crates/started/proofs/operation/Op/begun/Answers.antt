@@ -1,4 +1,3 @@
-use borrow.Author.Rules.{rules}
 use Rattle.started.proofs.operation.Op.begun.Goals as goal
 
 pub returns : goal.returns

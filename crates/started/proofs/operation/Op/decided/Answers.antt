@@ -1,4 +1,3 @@
-use borrow.Author.Rules.{rules}
 use Rattle.started.proofs.operation.Op.decided.Goals as goal
 
 pub returns-in-Ask : goal.returns-in-Ask

@@ -1,4 +1,3 @@
-use borrow.Author.Rules.{rules}
 use Rattle.started.proofs.operation.Op.next.Goals as goal
 
 pub returns : goal.returns

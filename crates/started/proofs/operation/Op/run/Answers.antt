@@ -1,5 +1,4 @@
 use mathlib.Core.Path.{sym}
-use borrow.Author.Rules.{rules}
 use Rattle.operations.specs.After.{resume_after}
 use Rattle.drive.proofs.Laws.{told_as, inside}
 use Rattle.started.proofs.operation.Op.run.Goals as goal

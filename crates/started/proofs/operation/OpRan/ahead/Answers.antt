@@ -1,10 +1,7 @@
-use Prim.Native.Nat.{◌-◌}
-use mathlib.Core.Path.{◌≡◌, refl}
+use mathlib.Core.Path.{refl}
 use borrow.Author.Rules.{rules}
-use lib.ListN.{length}
-use Rattle.drive.specs.Moves.{tape, Moves, stays}
+use Rattle.drive.specs.Moves.{stays}
 use Rattle.drive.proofs.Laws.{then, from_as, moves_less}
-use Rattle.started.specs.Operation.{told}
 use Rattle.started.proofs.Laws.{told_at}
 use Rattle.started.proofs.operation.OpRan.ahead.Goals as goal
 

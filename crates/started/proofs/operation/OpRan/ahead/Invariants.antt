@@ -1,11 +1,8 @@
 use Prim.Native.Nat.{◌-◌}
-use mathlib.Core.Path.{◌≡◌, refl}
-use borrow.Author.Rules.{rules}
+use mathlib.Core.Path.{◌≡◌}
 use lib.ListN.{length}
-use Rattle.drive.specs.Moves.{tape, Moves, stays}
-use Rattle.drive.proofs.Laws.{then, from_as, moves_less}
+use Rattle.drive.specs.Moves.{tape, Moves}
 use Rattle.started.specs.Operation.{told}
-use Rattle.started.proofs.Laws.{told_at}
 use Rattle.started.proofs.operation.OpRan.ahead.Given as goal
 
 abbrev pub invariant-loop-ran : goal.invariant-loop-ran

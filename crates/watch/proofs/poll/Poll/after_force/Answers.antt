@@ -1,5 +1,4 @@
 use Rattle.hardware.proofs.Laws.{then_assoc}
-use Rattle.std.proofs.Common.{rules}
 use Rattle.watch.proofs.poll.Poll.after_force.Goals as goal
 
 pub returns-in-Ask : goal.returns-in-Ask

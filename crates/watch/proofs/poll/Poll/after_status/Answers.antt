@@ -1,4 +1,3 @@
-use Rattle.std.proofs.Common.{rules}
 use Rattle.watch.proofs.poll.Poll.after_status.Goals as goal
 
 pub returns-in-Ok : goal.returns-in-Ok

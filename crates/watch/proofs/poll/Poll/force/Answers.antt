@@ -1,6 +1,5 @@
 use Rattle.hardware.proofs.Laws.{then_assoc}
 use Rattle.reference.specs.X552.{kr_autoneg, ixfi}
-use Rattle.std.proofs.Common.{rules}
 use Rattle.watch.proofs.poll.Poll.force.Goals as goal
 
 pub returns-in-Kr : goal.returns-in-Kr

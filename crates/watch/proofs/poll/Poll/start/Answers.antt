@@ -1,5 +1,4 @@
 use Rattle.reference.specs.Watch.{poll}
-use Rattle.std.proofs.Common.{rules}
 use Rattle.watch.proofs.poll.Poll.start.Goals as goal
 
 pub returns : goal.returns

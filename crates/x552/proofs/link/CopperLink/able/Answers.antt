@@ -1,6 +1,5 @@
 use Rattle.hardware.proofs.Laws.{then_assoc}
 use Rattle.reference.specs.X552.{ixfi}
-use borrow.Author.Rules.{rules}
 use Rattle.x552.proofs.link.CopperLink.able.Goals as goal
 
 pub returns-in-Ixfi : goal.returns-in-Ixfi

@@ -1,5 +1,4 @@
 use mathlib.Core.Path.{sym}
-use borrow.Author.Rules.{rules}
 use Rattle.x552.proofs.link.CopperLink.advertise.Goals as goal
 
 pub returns : goal.returns

@@ -1,5 +1,4 @@
 use Rattle.hardware.proofs.Laws.{then_assoc}
-use borrow.Author.Rules.{rules}
 use Rattle.hardware.proofs.Laws.{times_more, times_none}
 use Rattle.x552.proofs.link.CopperLink.again.Goals as goal
 

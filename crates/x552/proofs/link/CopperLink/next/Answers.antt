@@ -1,6 +1,5 @@
 use mathlib.Core.Path.{sym}
 use Rattle.hardware.proofs.Laws.{then_assoc}
-use borrow.Author.Rules.{rules}
 use Rattle.x552.proofs.link.CopperLink.next.Goals as goal
 
 pub returns-in-Ixfi : goal.returns-in-Ixfi

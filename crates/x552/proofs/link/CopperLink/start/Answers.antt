@@ -1,4 +1,3 @@
-use borrow.Author.Rules.{rules}
 use Rattle.x552.proofs.Laws.{link_begun}
 use Rattle.x552.proofs.link.CopperLink.start.Goals as goal
 

@@ -1,5 +1,4 @@
 use Rattle.hardware.proofs.Laws.{then_assoc}
-use borrow.Author.Rules.{rules}
 use Rattle.x552.proofs.prepare.PrepareCopper.after_clock.Goals as goal
 
 pub returns-in-Ask : goal.returns-in-Ask

@@ -1,6 +1,5 @@
 use mathlib.Core.Path.{sym}
-use borrow.Author.Rules.{rules}
-use borrow.Author.Tests.{eq-eqb, ne_eqb}
+use borrow.Author.Tests.{ne_eqb}
 use Rattle.x552.proofs.prepare.PrepareCopper.alarms.Goals as goal
 
 pub returns : goal.returns

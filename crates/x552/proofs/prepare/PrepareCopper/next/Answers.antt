@@ -1,5 +1,4 @@
 use Rattle.hardware.proofs.Laws.{then_assoc}
-use borrow.Author.Rules.{rules}
 use Rattle.x552.proofs.prepare.PrepareCopper.next.Goals as goal
 
 pub returns-in-Clock : goal.returns-in-Clock

@@ -1,4 +1,3 @@
-use borrow.Author.Rules.{rules}
 use Rattle.x552.proofs.prepare.PrepareCopper.reset.Goals as goal
 
 pub returns : goal.returns

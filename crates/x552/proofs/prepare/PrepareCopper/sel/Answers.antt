@@ -1,4 +1,3 @@
-use borrow.Author.Rules.{rules}
 use borrow.Author.Tests.{eq-eqb, ne_eqb}
 use Rattle.x552.proofs.prepare.PrepareCopper.sel.Goals as goal
 

@@ -1,6 +1,5 @@
 use Rattle.reference.specs.X553.{setup_firmware}
 use Rattle.x553.proofs.Laws.{up_link}
-use borrow.Author.Rules.{rules}
 use Rattle.x553.proofs.firmware.SetupFirmware.free.Goals as goal
 
 pub returns : goal.returns

@@ -1,7 +1,6 @@
 use mathlib.Core.Path.{sym}
 use Rattle.hardware.proofs.Laws.{then_assoc}
-use borrow.Author.Rules.{rules}
-use borrow.Author.Tests.{eq-eqb, ne_eqb}
+use borrow.Author.Tests.{ne_eqb}
 use Rattle.x553.proofs.firmware.SetupFirmware.link.Goals as goal
 
 pub returns : goal.returns

@@ -1,5 +1,4 @@
 use mathlib.Core.Path.{sym}
-use borrow.Author.Rules.{rules}
 use Rattle.x553.proofs.firmware.SetupFirmware.next.Goals as goal
 
 pub returns-in-Internal : goal.returns-in-Internal

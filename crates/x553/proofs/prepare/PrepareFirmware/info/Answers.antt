@@ -1,6 +1,5 @@
 use Rattle.x553.proofs.Laws.{reset_place}
-use borrow.Author.Rules.{rules}
-use borrow.Author.Tests.{eq-eqb, ne_eqb}
+use borrow.Author.Tests.{ne_eqb}
 use Rattle.x553.proofs.prepare.PrepareFirmware.info.Goals as goal
 
 pub returns : goal.returns

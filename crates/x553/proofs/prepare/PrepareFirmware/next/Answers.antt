@@ -1,5 +1,4 @@
 use mathlib.Core.Path.{sym}
-use borrow.Author.Rules.{rules}
 use Rattle.x553.proofs.prepare.PrepareFirmware.next.Goals as goal
 
 pub returns-in-Info : goal.returns-in-Info

@@ -1,7 +1,6 @@
 use mathlib.Core.Path.{sym}
 use Rattle.reference.specs.X553.{prepare_firmware}
 use Rattle.hardware.proofs.Laws.{then_assoc}
-use borrow.Author.Rules.{rules}
 use Rattle.x553.proofs.prepare.PrepareFirmware.start.Goals as goal
 
 pub returns : goal.returns

@@ -1,6 +1,5 @@
 use Rattle.hardware.proofs.Laws.{then_assoc}
 use Rattle.reference.specs.X552.{restart_an}
-use borrow.Author.Rules.{rules}
 use Rattle.x553.proofs.sgmii.Sgmii.after_lane.Goals as goal
 
 pub returns-in-Ask : goal.returns-in-Ask

@@ -1,6 +1,5 @@
 use mathlib.Core.Path.{sym}
 use Rattle.hardware.proofs.Laws.{then_assoc}
-use borrow.Author.Rules.{rules}
 use Rattle.x553.proofs.sgmii.Sgmii.next.Goals as goal
 
 pub returns-in-Ctrl : goal.returns-in-Ctrl

@@ -1,5 +1,4 @@
 use mathlib.Core.Path.{sym}
-use borrow.Author.Rules.{rules}
 use Rattle.x553.proofs.sgmii_an.SgmiiAn.after_again.Goals as goal
 
 pub returns-in-Ok : goal.returns-in-Ok

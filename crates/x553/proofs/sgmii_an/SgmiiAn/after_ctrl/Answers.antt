@@ -1,6 +1,5 @@
 use mathlib.Core.Path.{sym}
 use Rattle.hardware.proofs.Laws.{then_assoc}
-use borrow.Author.Rules.{rules}
 use Rattle.x553.proofs.sgmii_an.SgmiiAn.after_ctrl.Goals as goal
 
 pub returns-in-Ask : goal.returns-in-Ask

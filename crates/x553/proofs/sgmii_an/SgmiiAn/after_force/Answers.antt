@@ -3,7 +3,6 @@ use Rattle.access.proofs.Laws.{wrote}
 use Rattle.reference.specs.X552.{kr_write}
 use Rattle.kr.specs.Modify.{modify_of}
 use Rattle.x553.specs.SgmiiAn.{lane_of, lane_then}
-use borrow.Author.Rules.{rules}
 use Rattle.x553.proofs.sgmii_an.SgmiiAn.after_force.Goals as goal
 
 pub returns-in-Ask : goal.returns-in-Ask

@@ -1,6 +1,5 @@
 use mathlib.Core.Path.{sym}
 use Rattle.reference.specs.X553.{sgmii_an}
-use borrow.Author.Rules.{rules}
 use Rattle.x553.proofs.sgmii_an.SgmiiAn.start.Goals as goal
 
 pub returns : goal.returns
