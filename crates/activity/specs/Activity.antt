@@ -1,6 +1,6 @@
 -- What a suspended `phy_activity` still says, from what its job gives
 use Rattle.std.specs.Prelude.{ℕ, List}
-use Rattle.hardware.specs.Talk.{Call, Res, ok, err, end, and_then, ◌>>=◌, ◌>>◌}
+use Rattle.hardware.specs.Talk.{Call, Res, ok, err, end, and_then, ◌>>=◌}
 use Rattle.hardware.specs.declared.Port.{Port}
 use Rattle.answers.specs.declared.Words.{Words}
 use Rattle.reference.specs.Hostif.{activity_block, activity_times, activity_answer, phy_activity}

@@ -7,7 +7,6 @@ use Rattle.hardware.specs.Talk.{Talk, ask, end, ok}
 use Rattle.hardware.specs.declared.Port.{Port}
 use Rattle.reference.specs.Operations.{operation}
 use Rattle.hardware.specs.declared.Action.{Action}
-use Rattle.hardware.specs.declared.Action.TheVariants.{Read, Write, Wait}
 use Rattle.hardware.specs.declared.Reply.{Reply}
 use Rattle.drive.specs.Act.{uses, words, reply_for}
 use Rattle.drive.specs.Moves.{Tape, on_tape, tape, Moves, stays, goes}

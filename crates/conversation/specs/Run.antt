@@ -1,7 +1,5 @@
 -- A run over a script of replies, into a transcript
-use Rattle.std.specs.Prelude.{ℕ, ◌+◌, ◌-◌, ◌%◌, ◌^◌, Bool, true, false, List, [], ◌∷◌, ◌++◌, length, drop, nat_lt}
-use Rattle.std.proofs.lemmas.List.Edits.{sets}
-use Rattle.hardware.specs.Bound.{waited}
+use Rattle.std.specs.Prelude.{ℕ, ◌-◌, Bool, true, false, List, [], ◌∷◌, ◌++◌, length, drop, nat_lt}
 use Rattle.hardware.specs.Talk.{Talk, ask, end, pick}
 use Rattle.hardware.specs.declared.Action.{Action}
 use Rattle.hardware.specs.declared.Reply.{Reply}

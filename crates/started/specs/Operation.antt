@@ -1,7 +1,6 @@
 -- What a running operation still says
 use Rattle.std.specs.Prelude.{ℕ, List, take}
 use Rattle.hardware.specs.Talk.{Talk, ask, end, and_then}
-use Rattle.hardware.specs.declared.Action.{Action}
 use Rattle.hardware.specs.declared.Reply.{Reply}
 use Rattle.hardware.specs.declared.Port.{Port}
 use Rattle.reference.specs.Operations as ops

@@ -1,6 +1,6 @@
 -- What a suspended `setup` of a firmware PHY still says, from what its job gives
 use Rattle.std.specs.Prelude.{ℕ, Bool, false, true, List, eqb}
-use Rattle.hardware.specs.Talk.{Call, Res, ok, err, end, and_then, pick, is_clear, ◌>>=◌, ◌>>◌}
+use Rattle.hardware.specs.Talk.{Call, Res, ok, err, end, and_then, pick, is_clear, ◌>>=◌}
 use Rattle.hardware.specs.declared.Port.{Port}
 use Rattle.answers.specs.declared.FirmwarePhy.{FirmwarePhy}
 use Rattle.answers.specs.declared.MaybeWord.{MaybeWord}

@@ -1,7 +1,7 @@
 -- What a suspended `prepare_firmware` still says, from what its job gives
 use Rattle.std.specs.Prelude.{ℕ, Bool, true, List, eqb}
 use Rattle.std.specs.Int.Bits.{bit_or}
-use Rattle.hardware.specs.Talk.{Call, Res, ok, err, end, and_then, ◌>>=◌, ◌>>◌, return}
+use Rattle.hardware.specs.Talk.{Call, Res, ok, err, end, and_then, ◌>>=◌, return}
 use Rattle.hardware.specs.declared.Port.{Port}
 use Rattle.answers.specs.declared.FirmwarePhy.{FirmwarePhy}
 use Rattle.answers.specs.declared.Words.{Words}

@@ -1,4 +1,4 @@
-use Rattle.std.proofs.Common.{◌≡◌, ◌-◌, length, replicate, ◌∙◌, zero-add, arith, rules}
+use Rattle.std.proofs.Common.{◌≡◌, length, replicate, ◌∙◌, zero-add, arith, rules}
 use lib.Seq.{paste-zero, take-length}
 use Rattle.conversation.proofs.Laws.{copy_suc}
 use Rattle.conversation.proofs.conversation.copied.Goals as goal

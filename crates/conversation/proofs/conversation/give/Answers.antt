@@ -1,4 +1,4 @@
-use Rattle.std.proofs.Common.{◌≡◌, ◌-◌, length, ◌∙◌, arith, eq-eqb, ne_eqb}
+use Rattle.std.proofs.Common.{◌≡◌, length, ◌∙◌, arith, eq-eqb, ne_eqb}
 use lib.Seq.{paste-zero}
 use Rattle.conversation.proofs.Laws.{copy_suc, copy_length, copy_all}
 use Rattle.conversation.proofs.conversation.give.Goals as goal

@@ -1,4 +1,4 @@
-use Rattle.std.proofs.Common.{◌-◌, ◌∙◌, arith}
+use Rattle.std.proofs.Common.{◌∙◌, arith}
 use Rattle.conversation.proofs.Laws.{bad_end, bad_odd, bad_kind, bad_next}
 use Rattle.conversation.proofs.run.is_bad.Goals as goal
 

@@ -1,4 +1,4 @@
-use Rattle.std.proofs.Common.{◌-◌, refl, arith, rules}
+use Rattle.std.proofs.Common.{refl, arith, rules}
 use Rattle.drive.specs.Moves.{stays}
 use Rattle.drive.proofs.Laws.{then, from_as, moves_within}
 use Rattle.started.proofs.Laws.{told_at}
@@ -16,7 +16,6 @@ returns-in-Ended c = let l = c.loop-a in
 
 pub overflow_sub-t : goal.overflow_sub-t
 overflow_sub-t c = let l = c.loop-a in
-    let went = then l.invariant.3 c.ahead-ran.ensures in
     let in-it = moves_within c.ahead-ran.ensures l.invariant.1 l.invariant.2 in
     omega (arith, in-it.1)
 
@@ -28,7 +27,6 @@ returns-then-t-h-lt3 c = let l = c.loop-a in
 
 pub overflow_sub-replies : goal.overflow_sub-replies
 overflow_sub-replies c = let l = c.loop-a in
-    let went = then l.invariant.3 c.ahead-ran.ensures in
     let in-it = moves_within c.ahead-ran.ensures l.invariant.1 l.invariant.2 in
     omega (arith, in-it.2)
 
@@ -42,13 +40,11 @@ returns-then-replies-h c = let l = c.loop-a in
 
 pub single-ran-requires : goal.single-ran-requires
 single-ran-requires c = let l = c.loop-a in
-    let went = then l.invariant.3 c.ahead-ran.ensures in
     let in-it = moves_within c.ahead-ran.ensures l.invariant.1 l.invariant.2 in
     record { at_in_bounds = omega (arith, in-it.1, c.if-t-h-lt3.false); a_in_bounds = omega (arith, in-it.2, c.uses_of.ensures, c.if-replies-h.false) }
 
 pub loop-a-smaller : goal.loop-a-smaller
 loop-a-smaller c = let l = c.loop-a in
-    let went = then l.invariant.3 c.ahead-ran.ensures in
     let in-it = moves_within c.ahead-ran.ensures l.invariant.1 l.invariant.2 in
     omega (arith, in-it.0, in-it.1, c.single-ran.ensures.at_value, c.if-t-h-lt3.false)
 

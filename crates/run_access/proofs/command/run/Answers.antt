@@ -1,4 +1,3 @@
-use Prim.Native.Nat.{◌-◌}
 use mathlib.Core.Path.{refl, ap}
 use borrow.Author.Rules.{rules}
 use Rattle.hostif.specs.Command.{told_command}
