@@ -4,8 +4,7 @@
 ghost use Rattle.std.specs.Prelude.{◌≡◌};
 ghost use Rattle.script.specs.Script.{pair_at};
 
-// The lent words, and the place of the next reply. The borrow checker covers no function over a struct that holds a
-// reference: `new`, `next` and `read_pair` are proved by hand, so what there is to do is left to `pair_at`.
+// The lent words, and the place of the next reply. What there is to do is left to `pair_at`.
 #[derive(Clone, Copy)]
 pub struct Reader<'a> {
     pub replies: &'a [u32],
@@ -47,7 +46,7 @@ impl<'a> Reader<'a> {
     }
 }
 
-// Its parameters are plain, so that its callers need no proof by hand.
+// Its parameters are plain, so that its callers hold no struct with a reference.
 pub fn read_pair(replies: &[u32], at: usize) -> Pair
     ensures { pair_at replies.now at ≡ result }
 {
