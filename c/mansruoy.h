@@ -10,13 +10,14 @@
  *     mansruoy_answered r = mansruoy_answer(s.to);
  *
  * Numbers of a call: 0 it went well; 20 lan above 1, 21 a fiber device, 22 a PHY or device address above 31, 23 a host block
- * above 16 words; 24 the conversation has ended; 25 a reply's kind above 1; 26 no reply left, 27 no room for three words (both
- * stop a run, which goes on from what it gives back); 28 no such family, device or operation, or arguments that are not the
- * operation's; 29 words that are no conversation; 30 it has not ended. A call that is turned away changes nothing.
+ * above 16 words; 24 the conversation has ended; 25 a reply's kind above 1, or in a run an odd number of reply words; 26 no reply
+ * left, 27 no room for three words (both stop a run, which goes on from what it gives back); 28 no such family, device or
+ * operation, or arguments that are not the operation's; 29 words that are no conversation; 30 it has not ended. A call that is
+ * turned away changes nothing.
  *
  * No pointer may be null, also where its length is 0, and the two buffers of a run do not overlap.
  *
- * Link with target/staticlib/libborder.a (rt staticlib border); x86-64. It needs memcpy and memset, and nothing else of a C library. */
+ * Link with target/staticlib/libborder.a (tools/library builds it); x86-64. It needs memcpy and memset, and nothing else of a C library. */
 #ifndef MANSRUOY_H
 #define MANSRUOY_H
 
