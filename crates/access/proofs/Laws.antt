@@ -1,8 +1,9 @@
 -- Jobs as talks that give a word
+use Rattle.std.specs.Prelude.{Err, Ok}
+use Rattle.hardware.specs.Talk.{Talk, Call, Res, end, ask, and_then, or_stop, ◌>>◌, return}
 use Prim.Native.Nat.{ℕ}
 use mathlib.Core.List.{List, []}
 use mathlib.Core.Path.{◌≡◌, refl, ap, ◌∙◌, fun_ext}
-use Rattle.hardware.specs.Talk.{Talk, Call, Res, ok, err, end, ask, and_then, or_stop, ◌>>◌, return}
 use Rattle.hardware.specs.Block.{keep}
 use Rattle.hardware.specs.declared.Port.{Port}
 use Rattle.words.specs.Mdio.{address}
@@ -19,33 +20,33 @@ use Rattle.access.specs.declared.body.Held.TheVariants as held
 
 -- what comes after a job that gives no word
 pub wrote : {B : Type 0} (t : Call (Unit {0})) (k : Call B) → and_then (no_word t) (λ p. or_stop (λ _. k) p.0) ≡ t >> k
-wrote (end (ok _)) k = refl
-wrote (end (err e)) k = refl
+wrote (end (Ok _)) k = refl
+wrote (end (Err e)) k = refl
 wrote (ask a c) k = ap (ask a) (fun_ext (λ r. wrote (c r) k))
 
 pub wrote_last : (t : Call (Unit {0})) → and_then (no_word t) (λ p. or_stop (λ _. return tt) p.0) ≡ t
-wrote_last (end (ok _)) = refl
-wrote_last (end (err e)) = refl
+wrote_last (end (Ok _)) = refl
+wrote_last (end (Err e)) = refl
 wrote_last (ask a c) = ap (ask a) (fun_ext (λ r. wrote_last (c r)))
 
 -- nothing or 0 for a body that gives no word
 
 module _ (give : Call (Unit {0})) where
   done_zero : (give : Call (Unit {0})) (x : Res (Unit {0})) → no_word (held_done plain give x) ≡ keep (held_done plain give (zero_of x)) []
-  done_zero (end (ok _)) (ok _) = refl
-  done_zero (end (err e)) (ok _) = refl
-  done_zero (end (ok _)) (err e) = refl
-  done_zero (end (err _)) (err e) = refl
+  done_zero (end (Ok _)) (Ok _) = refl
+  done_zero (end (Err e)) (Ok _) = refl
+  done_zero (end (Ok _)) (Err e) = refl
+  done_zero (end (Err _)) (Err e) = refl
   done_zero (ask a k) x = ap (ask a) (fun_ext (λ r. done_zero (k r) x))
 
   body_zero : (body : Call (Unit {0})) → no_word (and_then body (held_done plain give)) ≡ keep (and_then (body >> return 0) (held_done plain give)) []
-  body_zero (end (ok u)) = done_zero give (ok u)
-  body_zero (end (err e)) = done_zero give (err e)
+  body_zero (end (Ok u)) = done_zero give (Ok u)
+  body_zero (end (Err e)) = done_zero give (Err e)
   body_zero (ask a k) = ap (ask a) (fun_ext (λ r. body_zero (k r)))
 
   held_zero : (take body : Call (Unit {0})) → no_word (sync.held plain take give body) ≡ keep (sync.held plain take give (body >> return 0)) []
-  held_zero (end (ok _)) body = body_zero body
-  held_zero (end (err e)) body = refl
+  held_zero (end (Ok _)) body = body_zero body
+  held_zero (end (Err e)) body = refl
   held_zero (ask a k) body = ap (ask a) (fun_ext (λ r. held_zero (k r) body))
 
 pub zero_begun : (port : Port) (mask : ℕ) (body : Call (Unit {0})) → no_word (locked plain port mask body) ≡ keep (locked plain port mask (body >> return 0)) []

@@ -1,8 +1,9 @@
 -- What the suspended closure of a `locked` still says, with the host block
+use Rattle.hardware.specs.Told.{told}
+use Rattle.hardware.specs.declared.Action.{Action}
+use Rattle.hardware.specs.declared.Step.{Step}
+use Rattle.hardware.specs.Talk.{Call, Reply, Res}
 use Rattle.std.specs.Prelude.{ℕ, List}
-use Rattle.hardware.specs.Talk.{Call, ask, end}
-use Rattle.hardware.specs.Told.{word_of}
-use Rattle.hardware.specs.declared.Reply.{Reply}
 use Rattle.reference.specs.X552.{nvm_body}
 use Rattle.mdio.specs.Mdio.{body_of, resume_mdio}
 use Rattle.sideband.specs.Kr.{kr_body, resume_kr}
@@ -11,8 +12,6 @@ use Rattle.access.specs.declared.body.Held.{Held}
 use Rattle.access.specs.declared.body.Held.TheVariants as held
 use Rattle.access.specs.declared.body.Body.{Body}
 use Rattle.access.specs.declared.body.Body.TheVariants as body
-use Rattle.access.specs.declared.body.BodyStep.{BodyStep}
-use Rattle.access.specs.declared.body.BodyStep.TheVariants as bodystep
 
 -- the closure itself, with the Rust's pause of 10 microseconds
 abbrev pub held_talk : Held → Call ℕ
@@ -25,6 +24,5 @@ resume_body (body.Mdio w s) b r = resume_mdio w s r
 resume_body (body.Kr w s) b r = resume_kr 10 w s r
 resume_body (body.Nvm s) b r = resume_nvm s b r
 
-abbrev pub told_body : List ℕ → BodyStep → Call ℕ
-told_body b (bodystep.Ask a s) = ask a (λ r. resume_body s b r)
-told_body b (bodystep.Done r) = end (word_of r)
+abbrev pub told_body : List ℕ → Step Action Body (Res ℕ) → Call ℕ
+told_body b = told (λ s r. resume_body s b r)

@@ -1,20 +1,19 @@
 -- What a suspended `acquire` or `release` still says, with the host block that the token's command uses
+use Rattle.hardware.specs.Told.{told}
+use Rattle.hardware.specs.declared.Action.{Action}
+use Rattle.hardware.specs.declared.Step.{Step}
+use Rattle.hardware.specs.Talk.{Call, Res, end, ◌>>=◌, ◌>>◌, attempt, Reply}
 use Rattle.std.specs.Prelude.{ℕ, Bool, true, false, List}
-use Rattle.hardware.specs.Talk.{Call, Res, ask, end, ◌>>=◌, ◌>>◌, attempt}
-use Rattle.hardware.specs.Told.{unit_of}
 use Rattle.hardware.specs.declared.Port.{Port}
-use Rattle.hardware.specs.declared.Reply.{Reply}
 use Rattle.reference.specs.Acquire.{acquire_times, acquire_ask, acquire_got, acquire_lost, release_rest, forget}
 use Rattle.sync.specs.Sync.{resume_sync}
-use Rattle.hostif.specs.Token.{flag_of, resume_token}
+use Rattle.hostif.specs.Token.{resume_token}
 use Rattle.access.specs.declared.hold.BitsPlace.{BitsPlace}
 use Rattle.access.specs.declared.hold.BitsPlace.TheVariants as bits
 use Rattle.access.specs.declared.hold.TokenPlace.{TokenPlace}
 use Rattle.access.specs.declared.hold.TokenPlace.TheVariants as token
 use Rattle.access.specs.declared.hold.Hold.{Hold}
 use Rattle.access.specs.declared.hold.Hold.TheVariants as hold
-use Rattle.access.specs.declared.hold.HoldStep.{HoldStep}
-use Rattle.access.specs.declared.hold.HoldStep.TheVariants as holdstep
 
 -- acquire, once the bits are taken
 abbrev pub hold_taken : Port → ℕ → ℕ → Call (Unit {0}) → Call (Unit {0})
@@ -44,8 +43,8 @@ hold_returned given t = t >> end given
 abbrev pub hold_bits : Port → ℕ → BitsPlace → Call (Unit {0}) → Call (Unit {0})
 hold_bits port hw bits.Plain t = t
 hold_bits port hw (bits.Taking n) t = hold_taken port hw n t
-hold_bits port hw (bits.Freeing n granted) t = hold_freed port hw n (flag_of granted) t
-hold_bits port hw (bits.Giving given) t = hold_returned (unit_of given) t
+hold_bits port hw (bits.Freeing n granted) t = hold_freed port hw n granted t
+hold_bits port hw (bits.Giving given) t = hold_returned given t
 
 abbrev pub takes : TokenPlace → Bool
 takes (token.Taking n) = true
@@ -60,6 +59,5 @@ resume_hold port hw (hold.Bits place s) b r = hold_bits port hw place (resume_sy
 resume_hold port hw (hold.Token place s) b r = hold_token port hw place (resume_token port (takes place) s b r)
 resume_hold port hw (hold.Pausing n) b r = acquire_times port hw n
 
-abbrev pub told_hold : Port → ℕ → List ℕ → HoldStep → Call (Unit {0})
-told_hold port hw b (holdstep.Ask a s) = ask a (λ r. resume_hold port hw s b r)
-told_hold port hw b (holdstep.Done r) = end (unit_of r)
+abbrev pub told_hold : Port → ℕ → List ℕ → Step Action Hold (Res (Unit {0})) → Call (Unit {0})
+told_hold port hw b = told (λ s r. resume_hold port hw s b r)

@@ -1,9 +1,10 @@
 -- What a suspended `locked`, `acquire` or `release` still says, with the host block that the token's command uses
-use Rattle.std.specs.Prelude.{ℕ, List}
-use Rattle.hardware.specs.Talk.{Call, Res, ok, err, ask, end, and_then}
-use Rattle.hardware.specs.Told.{word_of}
+use Rattle.hardware.specs.Told.{told}
+use Rattle.hardware.specs.declared.Action.{Action}
+use Rattle.hardware.specs.declared.Step.{Step}
+use Rattle.hardware.specs.Talk.{Call, Res, end, and_then, Reply}
+use Rattle.std.specs.Prelude.{ℕ, List, Err, Ok}
 use Rattle.hardware.specs.declared.Port.{Port}
-use Rattle.hardware.specs.declared.Reply.{Reply}
 use Rattle.reference.specs.Sync.{plain, held_taken, held_done, held_given}
 use Rattle.reference.specs.Acquire.{hw_of, release}
 use Rattle.reference.specs.Acquire as sync
@@ -14,8 +15,6 @@ use Rattle.access.specs.declared.locked.HoldPlace.{HoldPlace}
 use Rattle.access.specs.declared.locked.HoldPlace.TheVariants as place
 use Rattle.access.specs.declared.locked.Locked.{Locked}
 use Rattle.access.specs.declared.locked.Locked.TheVariants as locked
-use Rattle.access.specs.declared.locked.LockedStep.{LockedStep}
-use Rattle.access.specs.declared.locked.LockedStep.TheVariants as lockedstep
 
 abbrev pub locked_talk : Port → ℕ → Held → Call ℕ
 locked_talk port mask h = sync.locked plain port mask (held_talk h)
@@ -31,8 +30,8 @@ locked_acquired port mask h t = and_then t (held_taken plain (release port mask)
 
 -- what gives no word gives 0
 abbrev pub zero_of : Res (Unit {0}) → Res ℕ
-zero_of (ok _) = ok 0
-zero_of (err e) = err e
+zero_of (Ok _) = Ok 0
+zero_of (Err e) = Err e
 
 abbrev pub zeroed : Call (Unit {0}) → Call ℕ
 zeroed t = and_then t (λ u. end (zero_of u))
@@ -40,12 +39,11 @@ zeroed t = and_then t (λ u. end (zero_of u))
 abbrev pub locked_held : Port → ℕ → HoldPlace → Call (Unit {0}) → Call ℕ
 locked_held port mask place.Alone t = zeroed t
 locked_held port mask (place.Acquiring h) t = locked_acquired port mask h t
-locked_held port mask (place.Releasing result) t = locked_released (word_of result) t
+locked_held port mask (place.Releasing result) t = locked_released result t
 
 abbrev pub resume_locked : Port → ℕ → Locked → List ℕ → Reply → Call ℕ
 resume_locked port mask (locked.Hold place s) b r = locked_held port mask place (resume_hold port (hw_of mask) s b r)
 resume_locked port mask (locked.Body s) b r = locked_after_body port mask (resume_body s b r)
 
-abbrev pub told_locked : Port → ℕ → List ℕ → LockedStep → Call ℕ
-told_locked port mask b (lockedstep.Ask a s) = ask a (λ r. resume_locked port mask s b r)
-told_locked port mask b (lockedstep.Done r) = end (word_of r)
+abbrev pub told_locked : Port → ℕ → List ℕ → Step Action Locked (Res ℕ) → Call ℕ
+told_locked port mask b = told (λ s r. resume_locked port mask s b r)

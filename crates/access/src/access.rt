@@ -1,6 +1,6 @@
 // What an operation asks for between two decisions of its own: an action, or what is done under a lock, suspended at an action.
 ghost use Rattle.std.specs.Prelude.{ℕ, List, [], ◌≡◌, take};
-ghost use Rattle.hardware.specs.Talk.{ask};
+ghost use Rattle.hardware.specs.Talk.{ask, end};
 ghost use Rattle.hardware.specs.Block.{keep};
 ghost use Rattle.reference.specs.Sync.{phy};
 ghost use Rattle.reference.specs.Acquire.{acquire, release};
@@ -11,9 +11,10 @@ ghost use Rattle.access.specs.Access.{job_talk, no_word, under_talk, resume_acce
 
 use crate::body::Held;
 use crate::hold::Hold;
-use crate::locked::{Locked, LockedStep};
-use hardware::{Action, Family, Port, Regs, Reply, Unit, Word};
-use hostif::command::{Command, CommandStep};
+use crate::locked::Locked;
+use drive::machine::Machine;
+use hardware::{Action, Error, Family, Port, Regs, Reply, Step, checked, done};
+use hostif::command::Command;
 use mdio::mdio::Wanted;
 use sideband::kr::KrWanted;
 use words::mdio::address;
@@ -59,11 +60,11 @@ pub struct Begun {
     pub access: Access,
 }
 
-// Done: what it gave, 0 for nothing, and how many words of the host block belong to it.
+// What an access gave, 0 for nothing, and how many words of the host block belong to it.
 #[derive(Clone, Copy)]
-pub enum AccessStep {
-    Ask(Action, Access),
-    Done(Word, usize),
+pub struct Given {
+    pub word: Result<u32, Error>,
+    pub words: usize,
 }
 
 // sync.rs's `phy`: the port's PHY bit.
@@ -95,7 +96,7 @@ impl Begun {
         ensures { under_talk port mask held ≡ ask result.action (λ x. resume_access port result.access block.new x) }
     {
         let family = port.family;
-        let regs = Regs::of(family);
+        let regs = Regs::from(family);
         let state = Locked::first(port, mask, held, block);
         Begun {
             action: Action::Read(regs.swsm),
@@ -124,7 +125,7 @@ impl Job {
             },
             Job::Command(words) => {
                 let family = port.family;
-                let regs = Regs::of(family);
+                let regs = Regs::from(family);
                 Begun {
                     action: Action::Read(regs.swsm),
                     access: Access::Command(words, Command::first(port)),
@@ -152,26 +153,34 @@ impl Job {
 }
 
 impl Access {
-    fn commanded(port: Port, words: usize, step: CommandStep) -> AccessStep
+    fn commanded(
+        port: Port,
+        words: usize,
+        step: Step<Action, Command, Result<u32, Error>>,
+    ) -> Step<Action, Access, Given>
         ensures { (b : List ℕ) → told_access port b result ≡ told_command port (take words b) step }
     {
         match step {
-            CommandStep::Ask(a, s) => AccessStep::Ask(a, Access::Command(words, s)),
-            CommandStep::Done(r) => AccessStep::Done(r, words),
+            Step::Ask(a, s) => Step::Ask(a, Access::Command(words, s)),
+            Step::Done(word) => Step::Done(Given { word, words }),
         }
     }
 
-    pub fn under(port: Port, mask: u32, step: LockedStep) -> AccessStep
+    pub fn under(
+        port: Port,
+        mask: u32,
+        step: Step<Action, Locked, Result<u32, Error>>,
+    ) -> Step<Action, Access, Given>
         ensures { (b : List ℕ) → told_access port b result ≡ keep (told_locked port mask b step) [] }
     {
         match step {
-            LockedStep::Ask(a, s) => AccessStep::Ask(a, Access::Under(mask, s)),
-            LockedStep::Done(r) => AccessStep::Done(r, 0),
+            Step::Ask(a, s) => Step::Ask(a, Access::Under(mask, s)),
+            Step::Done(word) => Step::Done(Given { word, words: 0 }),
         }
     }
 
     #[tactic(auto, unfolding(reference::specs::Acquire::acquire))]
-    pub fn acquire(port: Port, mask: u32, block: &mut [u32; 16]) -> AccessStep
+    pub fn acquire(port: Port, mask: u32, block: &mut [u32; 16]) -> Step<Action, Access, Given>
         ensures { told_access port block.new result ≡ no_word (acquire port mask) }
     {
         let step = Hold::acquire(port, mask, block);
@@ -180,23 +189,32 @@ impl Access {
 
     // That of mask 0 is done at once.
     #[tactic(auto, unfolding(reference::specs::Acquire::release))]
-    pub fn release(port: Port, mask: u32, block: &mut [u32; 16]) -> AccessStep
+    pub fn release(port: Port, mask: u32, block: &mut [u32; 16]) -> Step<Action, Access, Given>
         ensures { told_access port block.new result ≡ no_word (release port mask) }
     {
         let step = Hold::release(port, mask, block);
         Access::under(port, mask, Locked::alone(port, mask, step))
     }
 
-    pub fn next(self, port: Port, block: &mut [u32; 16], reply: Reply) -> AccessStep
+    // An access that has ended with no words of the host block.
+    fn gave(word: Result<u32, Error>) -> Step<Action, Access, Given>
+        ensures { (port : Port) (b : List ℕ) → told_access port b result ≡ end (word, []) }
+    {
+        Step::Done(Given { word, words: 0 })
+    }
+
+    pub fn next(
+        self,
+        port: Port,
+        block: &mut [u32; 16],
+        reply: Reply,
+    ) -> Step<Action, Access, Given>
         ensures { told_access port block.new result ≡ resume_access port self block.old reply }
     {
         match self {
-            Access::Reading => AccessStep::Done(reply.checked(), 0),
-            Access::Writing => match reply.done() {
-                Unit::Ok => AccessStep::Done(Word::Ok(0), 0),
-                Unit::Err(e) => AccessStep::Done(Word::Err(e), 0),
-            },
-            Access::Waiting => AccessStep::Done(Word::Ok(0), 0),
+            Access::Reading => Access::gave(checked(reply)),
+            Access::Writing => Access::gave(done(reply).map(|()| 0)),
+            Access::Waiting => Access::gave(Ok(0)),
             Access::Command(words, s) => {
                 let step = s.next_of(words, port, block, reply);
                 Access::commanded(port, words, step)

@@ -5,11 +5,12 @@ ghost use Rattle.sideband.specs.Kr.{told_kr};
 ghost use Rattle.sideband.specs.Nvm.{told_nvm};
 ghost use Rattle.access.specs.Body.{held_talk, resume_body, told_body};
 
-use hardware::{Action, Reply, Word};
-use mdio::mdio::{Mdio, MdioStep, Wanted};
+use drive::machine::Machine;
+use hardware::{Action, Error, Reply, Step};
+use mdio::mdio::{Mdio, Wanted};
 use sideband::idle::Idle;
-use sideband::kr::{Kr, KrStep, KrWanted};
-use sideband::nvm::{Nvm, NvmStep};
+use sideband::kr::{Kr, KrCall, KrWanted};
+use sideband::nvm::Nvm;
 
 // What the lock is for, with the Rust's arguments.
 #[derive(Clone, Copy)]
@@ -27,47 +28,52 @@ pub enum Body {
     Nvm(Nvm),
 }
 
-// Done: the value, or 0 for nothing
-#[derive(Clone, Copy)]
-pub enum BodyStep {
-    Ask(Action, Body),
-    Done(Word),
-}
-
 impl Body {
-    pub fn mdio(wanted: Wanted, step: MdioStep) -> BodyStep
+    pub fn mdio(
+        wanted: Wanted,
+        step: Step<Action, Mdio, Result<u32, Error>>,
+    ) -> Step<Action, Body, Result<u32, Error>>
         ensures { (b : List ℕ) → told_body b result ≡ told_mdio wanted step }
     {
         match step {
-            MdioStep::Ask(a, s) => BodyStep::Ask(a, Body::Mdio(wanted, s)),
-            MdioStep::Done(r) => BodyStep::Done(r),
+            Step::Ask(a, s) => Step::Ask(a, Body::Mdio(wanted, s)),
+            Step::Done(r) => Step::Done(r),
         }
     }
 
-    pub fn kr(wanted: KrWanted, step: KrStep) -> BodyStep
+    pub fn kr(
+        wanted: KrWanted,
+        step: Step<Action, Kr, Result<u32, Error>>,
+    ) -> Step<Action, Body, Result<u32, Error>>
         ensures { (b : List ℕ) → told_body b result ≡ told_kr 10 wanted step }
     {
         match step {
-            KrStep::Ask(a, s) => BodyStep::Ask(a, Body::Kr(wanted, s)),
-            KrStep::Done(r) => BodyStep::Done(r),
+            Step::Ask(a, s) => Step::Ask(a, Body::Kr(wanted, s)),
+            Step::Done(r) => Step::Done(r),
         }
     }
 
-    fn nvm(step: NvmStep) -> BodyStep
+    fn nvm(step: Step<Action, Nvm, Result<u32, Error>>) -> Step<Action, Body, Result<u32, Error>>
         ensures { (b : List ℕ) → told_body b result ≡ told_nvm b step }
     {
         match step {
-            NvmStep::Ask(a, s) => BodyStep::Ask(a, Body::Nvm(s)),
-            NvmStep::Done(r) => BodyStep::Done(r),
+            Step::Ask(a, s) => Step::Ask(a, Body::Nvm(s)),
+            Step::Done(r) => Step::Done(r),
         }
     }
 
-    pub fn start(held: Held, block: &mut [u32; 16]) -> BodyStep
+    pub fn start(held: Held, block: &mut [u32; 16]) -> Step<Action, Body, Result<u32, Error>>
         ensures { told_body block.new result ≡ held_talk held }
     {
         match held {
             Held::Mdio(wanted) => Body::mdio(wanted, Mdio::start(wanted)),
-            Held::Kr(wanted) => Body::kr(wanted, Kr::start(Idle::PAUSE, wanted)),
+            Held::Kr(wanted) => {
+                let call = KrCall {
+                    pause: Idle::PAUSE,
+                    wanted,
+                };
+                Body::kr(wanted, Kr::start(call))
+            }
             Held::Nvm(word) => {
                 let step = Nvm::start(word, block);
                 Body::nvm(step)
@@ -75,12 +81,18 @@ impl Body {
         }
     }
 
-    pub fn next(self, block: &[u32; 16], reply: Reply) -> BodyStep
+    pub fn next(self, block: &[u32; 16], reply: Reply) -> Step<Action, Body, Result<u32, Error>>
         ensures { told_body block.now result ≡ resume_body self block.now reply }
     {
         match self {
             Body::Mdio(wanted, s) => Body::mdio(wanted, s.next(wanted, reply)),
-            Body::Kr(wanted, s) => Body::kr(wanted, s.next(Idle::PAUSE, wanted, reply)),
+            Body::Kr(wanted, s) => {
+                let call = KrCall {
+                    pause: Idle::PAUSE,
+                    wanted,
+                };
+                Body::kr(wanted, s.next(call, reply))
+            }
             Body::Nvm(s) => Body::nvm(s.next(block, reply)),
         }
     }

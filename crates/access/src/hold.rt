@@ -3,27 +3,17 @@ ghost use Rattle.std.specs.Prelude.{ℕ, true, false, List, ◌≡◌, take};
 ghost use Rattle.hardware.specs.Talk.{ask};
 ghost use Rattle.hardware.specs.Regs.{regs};
 ghost use Rattle.hardware.specs.declared.Action.TheVariants.{Read};
-ghost use Rattle.hardware.specs.Told.{unit_of};
-ghost use Rattle.reference.specs.Acquire.{
-  hw_of,
-  acquire,
-  acquire_times,
-  acquire_ask,
-  acquire_got,
-  acquire_given,
-  acquire_lost,
-  release,
-  release_rest,
-};
+ghost use Rattle.reference.specs.Acquire.{hw_of, acquire, acquire_times, acquire_ask, acquire_got, acquire_given, acquire_lost, release, release_rest};
 ghost use Rattle.sync.specs.Sync.{told_sync};
 ghost use Rattle.hostif.specs.Command.{told_command};
-ghost use Rattle.hostif.specs.Token.{flag_of, token_after, told_token};
+ghost use Rattle.hostif.specs.Token.{token_after, told_token};
 ghost use Rattle.access.specs.Hold.{hold_taken, hold_freed, hold_given, hold_asked, hold_returned, hold_bits, hold_token, takes, resume_hold, told_hold};
 
-use hardware::{Action, Error, Port, Regs, Reply, Unit};
-use hostif::command::{Command, CommandStep};
-use hostif::token::{Flag, Token, TokenStep};
-use sync::sync::{Sync, SyncStep};
+use drive::machine::Machine;
+use hardware::{Action, Error, Port, Regs, Reply, Step};
+use hostif::command::Command;
+use hostif::token::Token;
+use sync::sync::Sync;
 
 // Where acquire_bits or release_bits runs.
 #[derive(Clone, Copy)]
@@ -33,9 +23,9 @@ pub enum BitsPlace {
     // acquire with TOKEN: tries left after this one
     Taking(u32),
     // acquire, after a refused token: tries left, and what `token` said
-    Freeing(u32, Flag),
+    Freeing(u32, Result<bool, Error>),
     // release: what giving back the token gave
-    Giving(Unit),
+    Giving(Result<(), Error>),
 }
 
 // Why the token's command runs.
@@ -54,29 +44,32 @@ pub enum Hold {
     Pausing(u32),
 }
 
-#[derive(Clone, Copy)]
-pub enum HoldStep {
-    Ask(Action, Hold),
-    Done(Unit),
-}
-
 impl Hold {
     pub const TOKEN: u32 = 0x4000_0000;
 
-    fn plain(port: Port, hw: u32, step: SyncStep) -> HoldStep
+    fn plain(
+        port: Port,
+        hw: u32,
+        step: Step<Action, Sync, Result<(), Error>>,
+    ) -> Step<Action, Hold, Result<(), Error>>
         ensures { (b : List ℕ) → told_hold port hw b result ≡ told_sync hw step }
     {
         match step {
-            SyncStep::Ask(a, s) => HoldStep::Ask(a, Hold::Bits(BitsPlace::Plain, s)),
-            SyncStep::Done(r) => HoldStep::Done(r),
+            Step::Ask(a, s) => Step::Ask(a, Hold::Bits(BitsPlace::Plain, s)),
+            Step::Done(r) => Step::Done(r),
         }
     }
 
-    fn again(port: Port, hw: u32, block: &mut [u32; 16], left: u32) -> HoldStep
+    fn again(
+        port: Port,
+        hw: u32,
+        block: &mut [u32; 16],
+        left: u32,
+    ) -> Step<Action, Hold, Result<(), Error>>
         ensures { told_hold port hw block.new result ≡ acquire_times port hw left }
     {
         if left == 0 {
-            HoldStep::Done(Unit::Err(Error::Firmware {
+            Step::Done(Err(Error::Firmware {
                 command: Token::COMMAND,
                 status: Token::BUSY,
             }))
@@ -88,7 +81,12 @@ impl Hold {
     }
 
     #[tactic(auto, unfolding(reference::specs::Acquire::acquire_ask))]
-    fn ask(port: Port, hw: u32, block: &mut [u32; 16], left: u32) -> HoldStep
+    fn ask(
+        port: Port,
+        hw: u32,
+        block: &mut [u32; 16],
+        left: u32,
+    ) -> Step<Action, Hold, Result<(), Error>>
         ensures { told_hold port hw block.new result ≡ acquire_ask port hw (acquire_times port hw left) }
     {
         let token = Token { take: true };
@@ -96,38 +94,54 @@ impl Hold {
         Hold::asked(port, hw, left, step)
     }
 
-    fn taken(port: Port, hw: u32, block: &mut [u32; 16], left: u32, step: SyncStep) -> HoldStep
+    fn taken(
+        port: Port,
+        hw: u32,
+        block: &mut [u32; 16],
+        left: u32,
+        step: Step<Action, Sync, Result<(), Error>>,
+    ) -> Step<Action, Hold, Result<(), Error>>
         ensures { told_hold port hw block.new result ≡ hold_taken port hw left (told_sync hw step) }
     {
         match step {
-            SyncStep::Ask(a, s) => HoldStep::Ask(a, Hold::Bits(BitsPlace::Taking(left), s)),
-            SyncStep::Done(r) => match r {
-                Unit::Ok => Hold::ask(port, hw, block, left),
-                Unit::Err(e) => HoldStep::Done(Unit::Err(e)),
+            Step::Ask(a, s) => Step::Ask(a, Hold::Bits(BitsPlace::Taking(left), s)),
+            Step::Done(r) => match r {
+                Ok(()) => Hold::ask(port, hw, block, left),
+                Err(e) => Step::Done(Err(e)),
             },
         }
     }
 
-    fn asked(port: Port, hw: u32, left: u32, step: TokenStep) -> HoldStep
+    fn asked(
+        port: Port,
+        hw: u32,
+        left: u32,
+        step: Step<Action, Command, Result<bool, Error>>,
+    ) -> Step<Action, Hold, Result<(), Error>>
         ensures { (b : List ℕ) → told_hold port hw b result ≡ hold_asked port hw left (told_token port true b step) }
     {
         match step {
-            TokenStep::Ask(a, s) => HoldStep::Ask(a, Hold::Token(TokenPlace::Taking(left), s)),
-            TokenStep::Done(granted) => Hold::got(port, hw, left, granted),
+            Step::Ask(a, s) => Step::Ask(a, Hold::Token(TokenPlace::Taking(left), s)),
+            Step::Done(granted) => Hold::got(port, hw, left, granted),
         }
     }
 
     #[tactic(auto, unfolding(reference::specs::Acquire::acquire_got))]
-    fn got(port: Port, hw: u32, left: u32, granted: Flag) -> HoldStep
-        ensures { (b : List ℕ) → told_hold port hw b result ≡ acquire_got port hw (acquire_times port hw left) (flag_of granted) }
+    fn got(
+        port: Port,
+        hw: u32,
+        left: u32,
+        granted: Result<bool, Error>,
+    ) -> Step<Action, Hold, Result<(), Error>>
+        ensures { (b : List ℕ) → told_hold port hw b result ≡ acquire_got port hw (acquire_times port hw left) granted }
     {
         match granted {
-            Flag::Err(e) => Hold::given(port, hw, left, Flag::Err(e)),
-            Flag::Ok(granted) => {
+            Err(e) => Hold::given(port, hw, left, Err(e)),
+            Ok(granted) => {
                 if granted {
-                    HoldStep::Done(Unit::Ok)
+                    Step::Done(Ok(()))
                 } else {
-                    Hold::given(port, hw, left, Flag::Ok(false))
+                    Hold::given(port, hw, left, Ok(false))
                 }
             }
         }
@@ -135,8 +149,13 @@ impl Hold {
 
     // The bits are given back before the token is asked for again.
     #[tactic(auto, unfolding(reference::specs::Acquire::acquire_given))]
-    fn given(port: Port, hw: u32, left: u32, granted: Flag) -> HoldStep
-        ensures { (b : List ℕ) → told_hold port hw b result ≡ acquire_given port hw (acquire_times port hw left) (flag_of granted) }
+    fn given(
+        port: Port,
+        hw: u32,
+        left: u32,
+        granted: Result<bool, Error>,
+    ) -> Step<Action, Hold, Result<(), Error>>
+        ensures { (b : List ℕ) → told_hold port hw b result ≡ acquire_given port hw (acquire_times port hw left) granted }
     {
         if hw == 0 {
             Hold::lost(port, hw, left, granted)
@@ -145,64 +164,81 @@ impl Hold {
         }
     }
 
-    fn freed(port: Port, hw: u32, left: u32, granted: Flag, step: SyncStep) -> HoldStep
-        ensures { (b : List ℕ) → told_hold port hw b result ≡ hold_freed port hw left (flag_of granted) (told_sync hw step) }
+    fn freed(
+        port: Port,
+        hw: u32,
+        left: u32,
+        granted: Result<bool, Error>,
+        step: Step<Action, Sync, Result<(), Error>>,
+    ) -> Step<Action, Hold, Result<(), Error>>
+        ensures { (b : List ℕ) → told_hold port hw b result ≡ hold_freed port hw left granted (told_sync hw step) }
     {
         match step {
-            SyncStep::Ask(a, s) => HoldStep::Ask(
-                a,
-                Hold::Bits(BitsPlace::Freeing(left, granted), s),
-            ),
-            SyncStep::Done(r) => match r {
-                Unit::Ok => Hold::lost(port, hw, left, granted),
-                Unit::Err(e) => HoldStep::Done(Unit::Err(e)),
+            Step::Ask(a, s) => Step::Ask(a, Hold::Bits(BitsPlace::Freeing(left, granted), s)),
+            Step::Done(r) => match r {
+                Ok(()) => Hold::lost(port, hw, left, granted),
+                Err(e) => Step::Done(Err(e)),
             },
         }
     }
 
     #[tactic(auto, unfolding(reference::specs::Acquire::acquire_lost))]
-    fn lost(port: Port, hw: u32, left: u32, granted: Flag) -> HoldStep
-        ensures { (b : List ℕ) → told_hold port hw b result ≡ acquire_lost (flag_of granted) (acquire_times port hw left) }
+    fn lost(
+        port: Port,
+        hw: u32,
+        left: u32,
+        granted: Result<bool, Error>,
+    ) -> Step<Action, Hold, Result<(), Error>>
+        ensures { (b : List ℕ) → told_hold port hw b result ≡ acquire_lost granted (acquire_times port hw left) }
     {
         match granted {
-            Flag::Err(e) => HoldStep::Done(Unit::Err(e)),
-            Flag::Ok(_) => HoldStep::Ask(Action::Wait(5000), Hold::Pausing(left)),
+            Err(e) => Step::Done(Err(e)),
+            Ok(_) => Step::Ask(Action::Wait(5000), Hold::Pausing(left)),
         }
     }
 
     // release's bits, also where the token could not be given back
     #[tactic(auto, unfolding(reference::specs::Acquire::release_rest, reference::specs::Hostif::token))]
-    fn rest(port: Port, hw: u32, token: Unit) -> HoldStep
-        ensures { (b : List ℕ) → told_hold port hw b result ≡ release_rest port hw (unit_of token) }
+    fn rest(port: Port, hw: u32, token: Result<(), Error>) -> Step<Action, Hold, Result<(), Error>>
+        ensures { (b : List ℕ) → told_hold port hw b result ≡ release_rest port hw token }
     {
         if hw == 0 {
-            HoldStep::Done(token)
+            Step::Done(token)
         } else {
             Hold::returned(port, hw, token, Sync::give(port, hw))
         }
     }
 
     #[tactic(auto, unfolding(reference::specs::Hostif::token))]
-    fn returned(port: Port, hw: u32, token: Unit, step: SyncStep) -> HoldStep
-        ensures { (b : List ℕ) → told_hold port hw b result ≡ hold_returned (unit_of token) (told_sync hw step) }
+    fn returned(
+        port: Port,
+        hw: u32,
+        token: Result<(), Error>,
+        step: Step<Action, Sync, Result<(), Error>>,
+    ) -> Step<Action, Hold, Result<(), Error>>
+        ensures { (b : List ℕ) → told_hold port hw b result ≡ hold_returned token (told_sync hw step) }
     {
         match step {
-            SyncStep::Ask(a, s) => HoldStep::Ask(a, Hold::Bits(BitsPlace::Giving(token), s)),
-            SyncStep::Done(r) => match r {
-                Unit::Ok => HoldStep::Done(token),
-                Unit::Err(e) => HoldStep::Done(Unit::Err(e)),
+            Step::Ask(a, s) => Step::Ask(a, Hold::Bits(BitsPlace::Giving(token), s)),
+            Step::Done(r) => match r {
+                Ok(()) => Step::Done(token),
+                Err(e) => Step::Done(Err(e)),
             },
         }
     }
 
-    fn gave(port: Port, hw: u32, step: TokenStep) -> HoldStep
+    fn gave(
+        port: Port,
+        hw: u32,
+        step: Step<Action, Command, Result<bool, Error>>,
+    ) -> Step<Action, Hold, Result<(), Error>>
         ensures { (b : List ℕ) → told_hold port hw b result ≡ hold_given port hw (told_token port false b step) }
     {
         match step {
-            TokenStep::Ask(a, s) => HoldStep::Ask(a, Hold::Token(TokenPlace::Giving, s)),
-            TokenStep::Done(given) => match given {
-                Flag::Ok(_) => Hold::rest(port, hw, Unit::Ok),
-                Flag::Err(e) => Hold::rest(port, hw, Unit::Err(e)),
+            Step::Ask(a, s) => Step::Ask(a, Hold::Token(TokenPlace::Giving, s)),
+            Step::Done(given) => match given {
+                Ok(_) => Hold::rest(port, hw, Ok(())),
+                Err(e) => Hold::rest(port, hw, Err(e)),
             },
         }
     }
@@ -224,22 +260,30 @@ impl Hold {
         }
     }
 
-    pub fn acquire(port: Port, mask: u32, block: &mut [u32; 16]) -> HoldStep
+    pub fn acquire(
+        port: Port,
+        mask: u32,
+        block: &mut [u32; 16],
+    ) -> Step<Action, Hold, Result<(), Error>>
         ensures { told_hold port (hw_of mask) block.new result ≡ acquire port mask }
     {
         let family = port.family;
-        let regs = Regs::of(family);
+        let regs = Regs::from(family);
         let state = Hold::first(port, mask, block);
-        HoldStep::Ask(Action::Read(regs.swsm), state)
+        Step::Ask(Action::Read(regs.swsm), state)
     }
 
     #[tactic(auto, unfolding(reference::specs::Acquire::release))]
-    pub fn release(port: Port, mask: u32, block: &mut [u32; 16]) -> HoldStep
+    pub fn release(
+        port: Port,
+        mask: u32,
+        block: &mut [u32; 16],
+    ) -> Step<Action, Hold, Result<(), Error>>
         ensures { told_hold port (hw_of mask) block.new result ≡ release port mask }
     {
         let hw = mask & !Hold::TOKEN;
         if mask & Hold::TOKEN == 0 {
-            Hold::rest(port, hw, Unit::Ok)
+            Hold::rest(port, hw, Ok(()))
         } else {
             let token = Token { take: false };
             let step = token.start(port, block);
@@ -252,8 +296,8 @@ impl Hold {
         hw: u32,
         block: &mut [u32; 16],
         place: BitsPlace,
-        step: SyncStep,
-    ) -> HoldStep
+        step: Step<Action, Sync, Result<(), Error>>,
+    ) -> Step<Action, Hold, Result<(), Error>>
         ensures { told_hold port hw block.new result ≡ hold_bits port hw place (told_sync hw step) }
     {
         match place {
@@ -265,7 +309,12 @@ impl Hold {
     }
 
     // What is made of the token's command.
-    pub fn commanded(port: Port, hw: u32, place: TokenPlace, step: CommandStep) -> HoldStep
+    pub fn commanded(
+        port: Port,
+        hw: u32,
+        place: TokenPlace,
+        step: Step<Action, Command, Result<u32, Error>>,
+    ) -> Step<Action, Hold, Result<(), Error>>
         ensures { (b : List ℕ) → told_hold port hw b result ≡ hold_token port hw place (token_after (takes place) (told_command port (take 2 b) step)) }
     {
         match place {
@@ -280,7 +329,13 @@ impl Hold {
         }
     }
 
-    pub fn next(self, port: Port, hw: u32, block: &mut [u32; 16], reply: Reply) -> HoldStep
+    pub fn next(
+        self,
+        port: Port,
+        hw: u32,
+        block: &mut [u32; 16],
+        reply: Reply,
+    ) -> Step<Action, Hold, Result<(), Error>>
         ensures { told_hold port hw block.new result ≡ resume_hold port hw self block.old reply }
     {
         match self {

@@ -3,24 +3,15 @@ ghost use Rattle.std.specs.Prelude.{ℕ, List, ◌≡◌};
 ghost use Rattle.hardware.specs.Talk.{ask};
 ghost use Rattle.hardware.specs.Regs.{regs};
 ghost use Rattle.hardware.specs.declared.Action.TheVariants.{Read};
-ghost use Rattle.hardware.specs.Told.{word_of};
 ghost use Rattle.reference.specs.Acquire.{hw_of};
 ghost use Rattle.access.specs.Body.{told_body};
 ghost use Rattle.access.specs.Hold.{told_hold};
-ghost use Rattle.access.specs.Locked.{
-  locked_talk,
-  locked_acquired,
-  locked_after_body,
-  locked_released,
-  locked_held,
-  zeroed,
-  resume_locked,
-  told_locked,
-};
+ghost use Rattle.access.specs.Locked.{locked_talk, locked_acquired, locked_after_body, locked_released, locked_held, zeroed, resume_locked, told_locked};
 
-use crate::body::{Body, BodyStep, Held};
-use crate::hold::{Hold, HoldStep};
-use hardware::{Action, Port, Reply, Unit, Word};
+use crate::body::{Body, Held};
+use crate::hold::Hold;
+use drive::machine::Machine;
+use hardware::{Action, Error, Port, Reply, Step};
 use hostif::command::both;
 
 // Why acquire or release runs.
@@ -31,7 +22,7 @@ pub enum HoldPlace {
     // for this body
     Acquiring(Held),
     // with what the body gave
-    Releasing(Word),
+    Releasing(Result<u32, Error>),
 }
 
 #[derive(Clone, Copy)]
@@ -40,22 +31,20 @@ pub enum Locked {
     Body(Body),
 }
 
-#[derive(Clone, Copy)]
-pub enum LockedStep {
-    Ask(Action, Locked),
-    Done(Word),
-}
-
 impl Locked {
     // acquire or release by itself; it gives 0
-    pub fn alone(port: Port, mask: u32, step: HoldStep) -> LockedStep
+    pub fn alone(
+        port: Port,
+        mask: u32,
+        step: Step<Action, Hold, Result<(), Error>>,
+    ) -> Step<Action, Locked, Result<u32, Error>>
         ensures { (b : List ℕ) → told_locked port mask b result ≡ zeroed (told_hold port (hw_of mask) b step) }
     {
         match step {
-            HoldStep::Ask(a, s) => LockedStep::Ask(a, Locked::Hold(HoldPlace::Alone, s)),
-            HoldStep::Done(r) => match r {
-                Unit::Ok => LockedStep::Done(Word::Ok(0)),
-                Unit::Err(e) => LockedStep::Done(Word::Err(e)),
+            Step::Ask(a, s) => Step::Ask(a, Locked::Hold(HoldPlace::Alone, s)),
+            Step::Done(r) => match r {
+                Ok(()) => Step::Done(Ok(0)),
+                Err(e) => Step::Done(Err(e)),
             },
         }
     }
@@ -65,41 +54,51 @@ impl Locked {
         mask: u32,
         held: Held,
         block: &mut [u32; 16],
-        step: HoldStep,
-    ) -> LockedStep
+        step: Step<Action, Hold, Result<(), Error>>,
+    ) -> Step<Action, Locked, Result<u32, Error>>
         ensures { told_locked port mask block.new result ≡ locked_acquired port mask held (told_hold port (hw_of mask) block.old step) }
     {
         match step {
-            HoldStep::Ask(a, s) => LockedStep::Ask(a, Locked::Hold(HoldPlace::Acquiring(held), s)),
-            HoldStep::Done(r) => match r {
-                Unit::Ok => {
+            Step::Ask(a, s) => Step::Ask(a, Locked::Hold(HoldPlace::Acquiring(held), s)),
+            Step::Done(r) => match r {
+                Ok(()) => {
                     let step = Body::start(held, block);
                     Locked::after_body(port, mask, block, step)
                 }
-                Unit::Err(e) => LockedStep::Done(Word::Err(e)),
+                Err(e) => Step::Done(Err(e)),
             },
         }
     }
 
     // Whatever the body gave, the mask is given back.
-    pub fn after_body(port: Port, mask: u32, block: &mut [u32; 16], step: BodyStep) -> LockedStep
+    pub fn after_body(
+        port: Port,
+        mask: u32,
+        block: &mut [u32; 16],
+        step: Step<Action, Body, Result<u32, Error>>,
+    ) -> Step<Action, Locked, Result<u32, Error>>
         ensures { told_locked port mask block.new result ≡ locked_after_body port mask (told_body block.old step) }
     {
         match step {
-            BodyStep::Ask(a, s) => LockedStep::Ask(a, Locked::Body(s)),
-            BodyStep::Done(result) => {
+            Step::Ask(a, s) => Step::Ask(a, Locked::Body(s)),
+            Step::Done(result) => {
                 let step = Hold::release(port, mask, block);
                 Locked::released(port, mask, result, step)
             }
         }
     }
 
-    fn released(port: Port, mask: u32, res: Word, step: HoldStep) -> LockedStep
-        ensures { (b : List ℕ) → told_locked port mask b result ≡ locked_released (word_of res) (told_hold port (hw_of mask) b step) }
+    fn released(
+        port: Port,
+        mask: u32,
+        res: Result<u32, Error>,
+        step: Step<Action, Hold, Result<(), Error>>,
+    ) -> Step<Action, Locked, Result<u32, Error>>
+        ensures { (b : List ℕ) → told_locked port mask b result ≡ locked_released res (told_hold port (hw_of mask) b step) }
     {
         match step {
-            HoldStep::Ask(a, s) => LockedStep::Ask(a, Locked::Hold(HoldPlace::Releasing(res), s)),
-            HoldStep::Done(r) => LockedStep::Done(both(res, r)),
+            Step::Ask(a, s) => Step::Ask(a, Locked::Hold(HoldPlace::Releasing(res), s)),
+            Step::Done(r) => Step::Done(both(res, r)),
         }
     }
 
@@ -116,8 +115,8 @@ impl Locked {
         mask: u32,
         block: &mut [u32; 16],
         place: HoldPlace,
-        step: HoldStep,
-    ) -> LockedStep
+        step: Step<Action, Hold, Result<(), Error>>,
+    ) -> Step<Action, Locked, Result<u32, Error>>
         ensures { told_locked port mask block.new result ≡ locked_held port mask place (told_hold port (hw_of mask) block.old step) }
     {
         match place {
@@ -127,7 +126,13 @@ impl Locked {
         }
     }
 
-    pub fn next(self, port: Port, mask: u32, block: &mut [u32; 16], reply: Reply) -> LockedStep
+    pub fn next(
+        self,
+        port: Port,
+        mask: u32,
+        block: &mut [u32; 16],
+        reply: Reply,
+    ) -> Step<Action, Locked, Result<u32, Error>>
         ensures { told_locked port mask block.new result ≡ resume_locked port mask self block.old reply }
     {
         match self {

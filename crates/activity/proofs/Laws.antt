@@ -1,8 +1,8 @@
 -- An activity goes on from its command's status
+use Rattle.hardware.specs.Talk.{and_then, times}
 use Prim.Native.Nat.{ℕ}
 use mathlib.Core.List.{List}
 use mathlib.Core.Path.{◌≡◌, refl}
-use Rattle.hardware.specs.Talk.{and_then, times}
 use Rattle.hardware.specs.declared.Port.{Port}
 use Rattle.reference.specs.Hostif.{command, activity_times, activity_answer}
 use Rattle.hostif.proofs.Bytes.{status_cut}

@@ -2,13 +2,12 @@
 #![tactic(auto)]
 
 ghost use Rattle.std.specs.Prelude.{◌≤◌, ◌≡◌, get_or, length, take};
-ghost use Rattle.hardware.specs.Told.{word_of};
 ghost use Rattle.reference.specs.Hostif.{activity_times, activity_words};
 ghost use Rattle.activity.specs.Activity.{block_of, activity_of, activity_got, begun_activity, resume_activity, told_activity};
 
 use access::access::Job;
 use answers::Words;
-use hardware::{Error, Port, Word};
+use hardware::{Error, Port, Step};
 use words::hostif::swap_bytes;
 
 // phy_activity's arguments.
@@ -24,19 +23,6 @@ pub enum Activity {
     Exchanging(u32),
     // tries left, the last status
     Pausing(u32, u8),
-}
-
-// R<[u32; 4]>
-#[derive(Clone, Copy)]
-pub enum Found {
-    Ok(Words),
-    Err(Error),
-}
-
-#[derive(Clone, Copy)]
-pub enum ActivityStep {
-    Ask(Job, Activity),
-    Done(Found),
 }
 
 impl Activity {
@@ -63,17 +49,23 @@ impl Activity {
         block[5] = swap_bytes(data.w3);
     }
 
-    fn again(asked: Asked, port: Port, block: &mut [u32; 16], left: u32, status: u8) -> ActivityStep
+    fn again(
+        asked: Asked,
+        port: Port,
+        block: &mut [u32; 16],
+        left: u32,
+        status: u8,
+    ) -> Step<Job, Activity, Result<Words, Error>>
         ensures { told_activity port asked block.new result ≡ activity_times port (block_of port asked) left status }
     {
         if left == 0 {
-            return ActivityStep::Done(Found::Err(Error::Firmware {
+            return Step::Done(Err(Error::Firmware {
                 command: Activity::COMMAND,
                 status,
             }));
         }
         Activity::put(asked, port, block);
-        ActivityStep::Ask(Job::Command(6), Activity::Exchanging(left - 1))
+        Step::Ask(Job::Command(6), Activity::Exchanging(left - 1))
     }
 
     // Word i of the so many that belong to a reply, 0 beyond them.
@@ -106,19 +98,19 @@ impl Activity {
         port: Port,
         block: &[u32; 16],
         left: u32,
-        got: Word,
+        got: Result<u32, Error>,
         words: usize,
-    ) -> ActivityStep
-        ensures { told_activity port asked block.now result ≡ activity_got port asked left (word_of got) (take words block.now) }
+    ) -> Step<Job, Activity, Result<Words, Error>>
+        ensures { told_activity port asked block.now result ≡ activity_got port asked left got (take words block.now) }
     {
         match got {
-            Word::Err(e) => ActivityStep::Done(Found::Err(e)),
-            Word::Ok(v) => {
+            Err(e) => Step::Done(Err(e)),
+            Ok(v) => {
                 let status = (v % 256) as u8;
                 if status == Activity::OK {
-                    ActivityStep::Done(Found::Ok(Activity::found(block, words)))
+                    Step::Done(Ok(Activity::found(block, words)))
                 } else {
-                    ActivityStep::Ask(Job::Wait(20), Activity::Pausing(left, status))
+                    Step::Ask(Job::Wait(20), Activity::Pausing(left, status))
                 }
             }
         }
@@ -134,7 +126,11 @@ impl Activity {
     }
 
     #[tactic(auto, unfolding(reference::specs::Hostif::phy_activity))]
-    pub fn start(asked: Asked, port: Port, block: &mut [u32; 16]) -> ActivityStep
+    pub fn start(
+        asked: Asked,
+        port: Port,
+        block: &mut [u32; 16],
+    ) -> Step<Job, Activity, Result<Words, Error>>
         ensures { told_activity port asked block.new result ≡ activity_of port asked }
     {
         Activity::again(asked, port, block, 50, 0)
@@ -146,16 +142,16 @@ impl Activity {
         asked: Asked,
         port: Port,
         block: &mut [u32; 16],
-        got: Word,
+        got: Result<u32, Error>,
         words: usize,
-    ) -> ActivityStep
-        ensures { told_activity port asked block.new result ≡ resume_activity port asked self (word_of got) (take words block.old) }
+    ) -> Step<Job, Activity, Result<Words, Error>>
+        ensures { told_activity port asked block.new result ≡ resume_activity port asked self got (take words block.old) }
     {
         match self {
             Activity::Exchanging(left) => Activity::answered(asked, port, block, left, got, words),
             Activity::Pausing(left, status) => match got {
-                Word::Err(e) => ActivityStep::Done(Found::Err(e)),
-                Word::Ok(_) => Activity::again(asked, port, block, left, status),
+                Err(e) => Step::Done(Err(e)),
+                Ok(_) => Activity::again(asked, port, block, left, status),
             },
         }
     }

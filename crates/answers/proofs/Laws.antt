@@ -4,7 +4,7 @@ use native.Mathlib.Numerals.{add-one}
 use native.Mathlib.Omega.{arith}
 use mathlib.Core.Path.{◌≡◌, refl, ap, sym, ◌∙◌}
 use mathlib.Core.List.{List, [], ◌∷◌, ◌++◌, append_assoc, append-nil}
-use lib.ListN.{length, take, set, get_or, length-append, length-take, get_or-eq_default}
+use lib.ListN.{length, take, set, length-append, length-take}
 use lib.Seq.{take_all, take_at, take-suc-set}
 use Rattle.answers.specs.Shown.{kept}
 
@@ -47,17 +47,3 @@ module _ (n : ℕ) (ws : List ℕ) (twelve : length ws ≡ 12) where
   pub none_more : take n ws ≡ kept (take n ws ++ [])
   unfolding kept
   none_more = rw (← twelve) (nothing_more n ws)
-
-  -- how many words are shown
-  pub counted : n < 12 → length (take n ws) ≡ n
-  counted h = simp length-take (omega arith)
-
-  pub counted_full : 12 ≤ n → length (take n ws) ≡ 12
-  counted_full h = simp length-take (omega arith)
-
-  -- behind them stands 0
-  pub behind : (i : ℕ) → n ≤ i → get_or (take n ws) i 0 ≡ 0
-  behind i h = get_or-eq_default (take n ws) 0 (simp length-take (omega arith))
-
-  pub behind_all : (i : ℕ) → 12 ≤ i → get_or (take n ws) i 0 ≡ 0
-  behind_all i h = get_or-eq_default (take n ws) 0 (simp length-take (omega arith))

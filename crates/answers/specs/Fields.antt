@@ -1,21 +1,11 @@
 -- An answer's words in a listing: an enum is its place in the Rust from 0, then its fields; an absent option is 0, a present
 -- one 1 and its value; a truth value is 0 or 1
-use Rattle.std.specs.Prelude.{ℕ, Bool, true, false, List, [], ◌∷◌, ◌++◌, take}
-use Rattle.words.specs.declared.link.Megabits.{Megabits}
-use Rattle.words.specs.declared.link.Megabits.TheVariants as megabitsv
+use Rattle.std.specs.Prelude.{ℕ, Bool, true, false, List, [], ◌∷◌, ◌++◌, take, Option, None, Some}
 use Rattle.words.specs.declared.link.Link.{Link}
 use Rattle.words.specs.declared.link.Link.TheVariants as linkv
-use Rattle.words.specs.declared.phy.PhyId.{PhyId}
-use Rattle.words.specs.declared.phy.PhyId.TheVariants as phyidv
 use Rattle.answers.specs.declared.Speeds.{Speeds}
 use Rattle.answers.specs.declared.Internal.{Internal}
 use Rattle.answers.specs.declared.Internal.TheVariants.{Ixfi, Kr}
-use Rattle.answers.specs.declared.MaybeWord.{MaybeWord}
-use Rattle.answers.specs.declared.MaybeWord.TheVariants as maybewordv
-use Rattle.answers.specs.declared.MaybeStatus.{MaybeStatus}
-use Rattle.answers.specs.declared.MaybeStatus.TheVariants as maybestatusv
-use Rattle.answers.specs.declared.Scanned.{Scanned}
-use Rattle.answers.specs.declared.Scanned.TheVariants as scannedv
 use Rattle.answers.specs.declared.Words.{Words}
 use Rattle.answers.specs.declared.Copper.{Copper}
 use Rattle.answers.specs.declared.Copper.TheVariants as copperv
@@ -38,29 +28,17 @@ abbrev pub internal : Internal → ℕ
 internal Ixfi = 0
 internal Kr = 1
 
-abbrev pub megabits : Megabits → List ℕ
-megabits megabitsv.Nothing = 0 ∷ []
-megabits (megabitsv.Is m) = 1 ∷ m ∷ []
+abbrev pub maybe : Option ℕ → List ℕ
+maybe None = 0 ∷ []
+maybe (Some n) = 1 ∷ n ∷ []
 
-abbrev pub maybe_word : MaybeWord → List ℕ
-maybe_word maybewordv.Nothing = 0 ∷ []
-maybe_word (maybewordv.Is w) = 1 ∷ w ∷ []
-
-abbrev pub maybe_status : MaybeStatus → List ℕ
-maybe_status maybestatusv.Nothing = 0 ∷ []
-maybe_status (maybestatusv.Is s) = 1 ∷ s ∷ []
-
-abbrev pub phy_id : PhyId → List ℕ
-phy_id phyidv.Nothing = 0 ∷ []
-phy_id (phyidv.Id id) = 1 ∷ id ∷ []
-
-abbrev pub scanned : Scanned → List ℕ
-scanned scannedv.Nothing = 0 ∷ []
-scanned (scannedv.At phy id) = 1 ∷ phy ∷ id ∷ []
+abbrev pub scanned : Option (ℕ × ℕ) → List ℕ
+scanned None = 0 ∷ []
+scanned (Some (phy, id)) = 1 ∷ phy ∷ id ∷ []
 
 abbrev pub link : Link → List ℕ
 link linkv.Down = 0 ∷ []
-link (linkv.Up m) = 1 ∷ megabits m
+link (linkv.Up m) = 1 ∷ maybe m
 
 abbrev pub speeds : Speeds → List ℕ
 speeds s = flag s.g10 ∷ flag s.g1 ∷ flag s.m100 ∷ []
@@ -91,7 +69,7 @@ abbrev pub sgmii : SgmiiSetup → List ℕ
 sgmii s = s.link_ctrl ∷ s.sgmii ∷ s.flx ∷ []
 
 abbrev pub firmware : FirmwareSetup → List ℕ
-firmware s = s.phy.id ∷ s.phy.speeds ∷ maybe_word s.internal ++ flag s.overtemp ∷ []
+firmware s = s.phy.id ∷ s.phy.speeds ∷ maybe s.internal ++ flag s.overtemp ∷ []
 
 abbrev pub setup553 : Setup553 → List ℕ
 setup553 (setup553v.Kr lc) = 0 ∷ lc ∷ []
@@ -109,12 +87,12 @@ value (valuev.Word w) = w ∷ []
 value (valuev.Link l) = link l
 value (valuev.Command status n) = status ∷ []
 value (valuev.Activity w) = activity w
-value (valuev.Probe id) = phy_id id
+value (valuev.Probe id) = maybe id
 value (valuev.Scan s) = scanned s
 value (valuev.Abilities s) = speeds s
 value (valuev.X552 s) = setup552 s
 value (valuev.X553 s) = setup553 s
-value (valuev.Poll c forced reforced) = copper c ++ maybe_status forced ++ reforced ∷ []
+value (valuev.Poll c forced reforced) = copper c ++ maybe forced ++ reforced ∷ []
 
 -- how many words of the host block belong to it
 abbrev pub block_words : Value → ℕ

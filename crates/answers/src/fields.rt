@@ -1,27 +1,37 @@
 // The words of an answer and of an error, in the order of a listing.
-ghost use Rattle.std.specs.Prelude.{◌≡◌, [], ◌∷◌, length, get_or};
-ghost use Rattle.answers.specs.Fields.{flag, internal, megabits, maybe_word, maybe_status, phy_id, scanned, link, speeds, activity, copper, x557, copper_setup, setup552, sgmii, firmware, setup553, value, block_words};
-ghost use Rattle.answers.specs.Shown.{shown, added};
+ghost use Rattle.std.specs.Prelude.{◌≡◌, [], ◌∷◌, length, get_or, take};
+ghost use Rattle.answers.specs.Fields.{flag, internal, maybe, scanned, link, speeds, activity, copper, x557, copper_setup, setup552, sgmii, firmware, setup553, value, block_words};
+ghost use Rattle.answers.specs.Shown.{added};
 ghost use Rattle.hardware.specs.Numbers.{number, values};
 
 use crate::{
-    Copper, CopperSetup, FirmwareSetup, Internal, MaybeStatus, MaybeWord, Scanned, Setup552,
-    Setup553, SgmiiSetup, Speeds, Value, Words, X557,
+    Copper, CopperSetup, FirmwareSetup, Internal, Setup552, Setup553, SgmiiSetup, Speeds, Value,
+    Words, X557,
 };
 use hardware::Error;
-use words::link::{Link, Megabits};
-use words::phy::PhyId;
+use std::marker::Model;
+use words::link::Link;
 
-// Up to twelve words; those from `len` on mean nothing.
-#[derive(Clone, Copy)]
+// An answer's words in a listing: a list of up to twelve, in fixed memory.
+#[derive(Drop)]
 pub struct Fields {
-    pub words: [u32; 12],
-    pub len: usize,
+    words: [u32; 12],
+    len: usize,
+}
+
+impl Model for Fields {
+    ghost use Rattle.std.specs.Prelude.{ℕ, ◌≤◌, List, take};
+
+    ghost Value = { List ℕ };
+
+    ghost view = { λ f. take f.len f.words };
+
+    ghost invariant = { λ f. f.len ≤ 12 };
 }
 
 impl Fields {
     fn none() -> Fields
-        ensures { shown result ≡ [] }
+        ensures { result ≡ [] }
     {
         Fields {
             words: [0; 12],
@@ -31,27 +41,24 @@ impl Fields {
 
     // No answer comes to a thirteenth word, which would be left out.
     #[tactic(auto, using(crate::proofs::Laws::room, crate::proofs::Laws::full))]
-    fn word(self, w: u32) -> Fields
-        ensures { shown result ≡ added self (w ∷ []) }
+    fn word(mut self, w: u32) -> Fields
+        ensures { result ≡ added self (w ∷ []) }
     {
-        let at = self.len;
-        if at < 12 {
-            let mut words = self.words;
-            words[at] = w;
-            Fields { words, len: at + 1 }
-        } else {
-            self
+        if self.len < 12 {
+            self.words[self.len] = w;
+            self.len += 1;
         }
+        self
     }
 
     fn flag(self, b: bool) -> Fields
-        ensures { shown result ≡ added self (flag b ∷ []) }
+        ensures { result ≡ added self (flag b ∷ []) }
     {
         if b { self.word(1) } else { self.word(0) }
     }
 
     fn internal(self, i: Internal) -> Fields
-        ensures { shown result ≡ added self (internal i ∷ []) }
+        ensures { result ≡ added self (internal i ∷ []) }
     {
         match i {
             Internal::Ixfi => self.word(0),
@@ -60,82 +67,52 @@ impl Fields {
     }
 
     #[tactic(auto, using(crate::proofs::Laws::added_more))]
-    fn megabits(self, m: Megabits) -> Fields
-        ensures { shown result ≡ added self (megabits m) }
+    fn maybe(self, m: Option<u32>) -> Fields
+        ensures { result ≡ added self (maybe m) }
     {
         match m {
-            Megabits::Nothing => self.word(0),
-            Megabits::Is(speed) => self.word(1).word(speed),
+            None => self.word(0),
+            Some(value) => self.word(1).word(value),
         }
     }
 
     #[tactic(auto, using(crate::proofs::Laws::added_more))]
-    fn maybe_word(self, m: MaybeWord) -> Fields
-        ensures { shown result ≡ added self (maybe_word m) }
+    fn scanned(self, s: Option<(u8, u32)>) -> Fields
+        ensures { result ≡ added self (scanned s) }
     {
-        match m {
-            MaybeWord::Nothing => self.word(0),
-            MaybeWord::Is(w) => self.word(1).word(w),
-        }
-    }
-
-    #[tactic(auto, using(crate::proofs::Laws::added_more))]
-    fn maybe_status(self, m: MaybeStatus) -> Fields
-        ensures { shown result ≡ added self (maybe_status m) }
-    {
-        match m {
-            MaybeStatus::Nothing => self.word(0),
-            MaybeStatus::Is(status) => self.word(1).word(status as u32),
-        }
-    }
-
-    #[tactic(auto, using(crate::proofs::Laws::added_more))]
-    fn phy_id(self, p: PhyId) -> Fields
-        ensures { shown result ≡ added self (phy_id p) }
-    {
-        match p {
-            PhyId::Nothing => self.word(0),
-            PhyId::Id(id) => self.word(1).word(id),
-        }
-    }
-
-    #[tactic(auto, using(crate::proofs::Laws::added_more))]
-    fn scanned(self, s: Scanned) -> Fields
-        ensures { shown result ≡ added self (scanned s) }
-    {
-        match s {
-            Scanned::Nothing => self.word(0),
-            Scanned::At(phy, id) => self.word(1).word(phy as u32).word(id),
-        }
+        let Some((phy, id)) = s else {
+            return self.word(0);
+        };
+        self.word(1).word(phy as u32).word(id)
     }
 
     #[tactic(auto, using(crate::proofs::Laws::added_more))]
     fn link(self, l: Link) -> Fields
-        ensures { shown result ≡ added self (link l) }
+        ensures { result ≡ added self (link l) }
     {
         match l {
             Link::Down => self.word(0),
-            Link::Up { megabits } => self.word(1).megabits(megabits),
+            Link::Up { megabits } => self.word(1).maybe(megabits),
         }
     }
 
     #[tactic(auto, using(crate::proofs::Laws::added_more))]
     fn speeds(self, s: Speeds) -> Fields
-        ensures { shown result ≡ added self (speeds s) }
+        ensures { result ≡ added self (speeds s) }
     {
         self.flag(s.g10).flag(s.g1).flag(s.m100)
     }
 
     #[tactic(auto, using(crate::proofs::Laws::added_more))]
     fn activity(self, w: Words) -> Fields
-        ensures { shown result ≡ added self (activity w) }
+        ensures { result ≡ added self (activity w) }
     {
         self.word(w.w0).word(w.w1).word(w.w2).word(w.w3)
     }
 
     #[tactic(auto, using(crate::proofs::Laws::added_more))]
     fn copper(self, c: Copper) -> Fields
-        ensures { shown result ≡ added self (copper c) }
+        ensures { result ≡ added self (copper c) }
     {
         match c {
             Copper::Down => self.word(0),
@@ -146,7 +123,7 @@ impl Fields {
 
     #[tactic(auto, using(crate::proofs::Laws::added_more))]
     fn x557(self, p: X557) -> Fields
-        ensures { shown result ≡ added self (x557 p) }
+        ensures { result ≡ added self (x557 p) }
     {
         let internal = p.internal;
         let phy = self.word(p.phy as u32).word(p.id).word(p.sel);
@@ -155,7 +132,7 @@ impl Fields {
 
     #[tactic(auto, using(crate::proofs::Laws::added_more))]
     fn copper_setup(self, s: CopperSetup) -> Fields
-        ensures { shown result ≡ added self (copper_setup s) }
+        ensures { result ≡ added self (copper_setup s) }
     {
         let x557 = s.x557;
         let advertised = s.advertised;
@@ -164,7 +141,7 @@ impl Fields {
 
     #[tactic(auto, using(crate::proofs::Laws::added_more))]
     fn setup552(self, s: Setup552) -> Fields
-        ensures { shown result ≡ added self (setup552 s) }
+        ensures { result ≡ added self (setup552 s) }
     {
         match s {
             Setup552::Kx4 => self.word(0),
@@ -178,26 +155,26 @@ impl Fields {
 
     #[tactic(auto, using(crate::proofs::Laws::added_more))]
     fn sgmii(self, s: SgmiiSetup) -> Fields
-        ensures { shown result ≡ added self (sgmii s) }
+        ensures { result ≡ added self (sgmii s) }
     {
         self.word(s.link_ctrl).word(s.sgmii).word(s.flx)
     }
 
     #[tactic(auto, using(crate::proofs::Laws::added_more))]
     fn firmware(self, s: FirmwareSetup) -> Fields
-        ensures { shown result ≡ added self (firmware s) }
+        ensures { result ≡ added self (firmware s) }
     {
         let phy = s.phy;
         let internal = s.internal;
         self.word(phy.id)
             .word(phy.speeds as u32)
-            .maybe_word(internal)
+            .maybe(internal)
             .flag(s.overtemp)
     }
 
     #[tactic(auto, using(crate::proofs::Laws::added_more))]
     fn setup553(self, s: Setup553) -> Fields
-        ensures { shown result ≡ added self (setup553 s) }
+        ensures { result ≡ added self (setup553 s) }
     {
         match s {
             Setup553::Kr { link_ctrl } => self.word(0).word(link_ctrl),
@@ -211,16 +188,16 @@ impl Fields {
 
     #[tactic(auto, using(crate::proofs::Laws::added_more, crate::proofs::Laws::none_more))]
     fn value(self, v: Value) -> Fields
-        ensures { shown result ≡ added self (value v) }
+        ensures { result ≡ added self (value v) }
     {
         match v {
             Value::Nothing => self,
             Value::Flag(b) => self.flag(b),
             Value::Word(w) => self.word(w),
             Value::Link(l) => self.link(l),
-            Value::Command { status, words: _ } => self.word(status as u32),
+            Value::Command { status, .. } => self.word(status as u32),
             Value::Activity(w) => self.activity(w),
-            Value::Probe(id) => self.phy_id(id),
+            Value::Probe(id) => self.maybe(id),
             Value::Scan(s) => self.scanned(s),
             Value::Abilities(s) => self.speeds(s),
             Value::X552(s) => self.setup552(s),
@@ -229,13 +206,16 @@ impl Fields {
                 copper,
                 forced,
                 reforced,
-            } => self.copper(copper).maybe_status(forced).word(reforced),
+            } => self
+                .copper(copper)
+                .maybe(forced.map(|s| s as u32))
+                .word(reforced),
         }
     }
 
     #[tactic(auto, using(crate::proofs::Laws::added_more, crate::proofs::Laws::none_more))]
     fn error(self, e: Error) -> Fields
-        ensures { shown result ≡ added self (values e) }
+        ensures { result ≡ added self (values e) }
     {
         match e {
             Error::Io(code) => self.word(code),
@@ -249,44 +229,50 @@ impl Fields {
             Error::Semaphore { held } => self.word(held),
             Error::HostInterface { hicr } => self.word(hicr),
             Error::Firmware { command, status } => self.word(command as u32).word(status as u32),
-            Error::Removed => self,
-            Error::NoPhy => self,
-            Error::PhyReset => self,
-            Error::Lan => self,
-            Error::Fiber => self,
-            Error::Address => self,
-            Error::Block => self,
+            Error::Removed
+            | Error::NoPhy
+            | Error::PhyReset
+            | Error::Lan
+            | Error::Fiber
+            | Error::Address
+            | Error::Block => self,
         }
     }
 }
 
 impl Fields {
     // How many words it shows.
-    #[tactic(auto, using(crate::proofs::Laws::counted, crate::proofs::Laws::counted_full))]
-    pub fn count(self) -> usize
-        ensures { length (shown self) ≡ result }
+    pub fn count(&self) -> usize
+        ensures { length self.now ≡ result }
     {
-        if self.len < 12 { self.len } else { 12 }
+        self.len
     }
 
     // The word at place `i`, 0 past the last.
-    #[tactic(auto, using(crate::proofs::Laws::behind, crate::proofs::Laws::behind_all))]
-    pub fn at(self, i: usize) -> u32
-        ensures { get_or (shown self) i 0 ≡ result }
+    pub fn at(&self, i: usize) -> u32
+        ensures { get_or self.now i 0 ≡ result }
     {
-        let words = self.words;
-        if i < self.len {
-            if i < 12 { words[i] } else { 0 }
-        } else {
-            0
-        }
+        if i < self.len { self.words[i] } else { 0 }
+    }
+
+    pub fn as_slice(&self) -> &[u32]
+        ensures { result.now ≡ self.now }
+    {
+        &self.words[..self.len]
+    }
+
+    // The words from the array's start on; those behind them mean nothing.
+    pub fn to_array(&self) -> [u32; 12]
+        ensures { take (length self.now) result ≡ self.now }
+    {
+        self.words
     }
 }
 
 // A command's words of the host block come behind these.
 #[tactic(auto, using(crate::proofs::Fits::value_fits))]
 pub fn fields_of(v: Value) -> Fields
-    ensures { shown result ≡ value v }
+    ensures { result ≡ value v }
 {
     Fields::none().value(v)
 }
@@ -296,28 +282,14 @@ pub fn block_words(v: Value) -> u32
     ensures { block_words v ≡ result }
 {
     match v {
-        Value::Nothing => 0,
-        Value::Flag(_) => 0,
-        Value::Word(_) => 0,
-        Value::Link(_) => 0,
-        Value::Command { status: _, words } => words,
-        Value::Activity(_) => 0,
-        Value::Probe(_) => 0,
-        Value::Scan(_) => 0,
-        Value::Abilities(_) => 0,
-        Value::X552(_) => 0,
-        Value::X553(_) => 0,
-        Value::Poll {
-            copper: _,
-            forced: _,
-            reforced: _,
-        } => 0,
+        Value::Command { words, .. } => words,
+        _ => 0,
     }
 }
 
 #[tactic(auto, using(crate::proofs::Fits::values_fit))]
 pub fn error_fields(e: Error) -> Fields
-    ensures { shown result ≡ values e }
+    ensures { result ≡ values e }
 {
     Fields::none().error(e)
 }
@@ -329,22 +301,11 @@ pub fn error_number(e: Error) -> u32
     match e {
         Error::Io(_) => 1,
         Error::Removed => 2,
-        Error::Timeout {
-            register: _,
-            mask: _,
-            expected: _,
-            last: _,
-        } => 3,
-        Error::Sideband {
-            address: _,
-            ctrl: _,
-        } => 4,
-        Error::Semaphore { held: _ } => 5,
-        Error::HostInterface { hicr: _ } => 6,
-        Error::Firmware {
-            command: _,
-            status: _,
-        } => 7,
+        Error::Timeout { .. } => 3,
+        Error::Sideband { .. } => 4,
+        Error::Semaphore { .. } => 5,
+        Error::HostInterface { .. } => 6,
+        Error::Firmware { .. } => 7,
         Error::NoPhy => 8,
         Error::PhyReset => 9,
         Error::Lan => 20,

@@ -3,9 +3,7 @@
 
 pub mod fields;
 
-use hardware::Error;
 use words::link::Link;
-use words::phy::PhyId;
 
 // A set of link speeds: mdio.rs's Speeds.
 #[derive(Clone, Copy)]
@@ -20,27 +18,6 @@ pub struct Speeds {
 pub enum Internal {
     Ixfi,
     Kr,
-}
-
-// Option<u32>
-#[derive(Clone, Copy)]
-pub enum MaybeWord {
-    Nothing,
-    Is(u32),
-}
-
-// Option<u16>
-#[derive(Clone, Copy)]
-pub enum MaybeStatus {
-    Nothing,
-    Is(u16),
-}
-
-// Option<(u8, u32)>: where `scan` found a PHY, and its identifier.
-#[derive(Clone, Copy)]
-pub enum Scanned {
-    Nothing,
-    At(u8, u32),
 }
 
 // The four words of phy_activity.
@@ -109,7 +86,7 @@ pub struct FirmwarePhy {
 #[derive(Clone, Copy)]
 pub struct FirmwareSetup {
     pub phy: FirmwarePhy,
-    pub internal: MaybeWord,
+    pub internal: Option<u32>,
     pub overtemp: bool,
 }
 
@@ -140,22 +117,17 @@ pub enum Value {
         words: u32,
     },
     Activity(Words),
-    Probe(PhyId),
-    Scan(Scanned),
+    // the PHY's identifier
+    Probe(Option<u32>),
+    // where a PHY was found, and its identifier
+    Scan(Option<(u8, u32)>),
     Abilities(Speeds),
     X552(Setup552),
     X553(Setup553),
     // the watch's forced status and counter come with it
     Poll {
         copper: Copper,
-        forced: MaybeStatus,
+        forced: Option<u16>,
         reforced: u32,
     },
-}
-
-// What an operation ends with.
-#[derive(Clone, Copy)]
-pub enum Answer {
-    Ok(Value),
-    Err(Error),
 }

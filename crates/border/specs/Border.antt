@@ -1,8 +1,8 @@
 -- What a call from C comes to
-use Rattle.std.specs.Prelude.{ℕ, List, [], eqb, length, take, replicate}
+use Rattle.std.specs.Prelude.{ℕ, List, [], eqb, length, take, replicate, Option, Some, None, Ok, Err}
 use Rattle.hardware.specs.Numbers as error
 use Rattle.hardware.specs.Refusal.{refusal}
-use Rattle.hardware.specs.Talk.{Talk, ask, end, Res, ok, err, pick}
+use Rattle.hardware.specs.Talk.{Talk, ask, end, Res, pick}
 use Rattle.hardware.specs.declared.Port.{Port}
 use Rattle.answers.specs.Fields.{value}
 use Rattle.answers.specs.declared.Value.{Value}
@@ -13,10 +13,7 @@ use Rattle.started.specs.Operation.{Out}
 use Rattle.drive.specs.Moves.{Tape}
 use Rattle.conversation.specs.Run.{Shown, tape_of, left, run_all}
 use Rattle.start.specs.declared.operation.Operation.{Operation}
-use Rattle.trace.specs.declared.kinds.OperationLine.{OperationLine}
-use Rattle.trace.specs.declared.kinds.OperationLine.TheVariants as line
-use Rattle.lines.specs.declared.port.PortLine.{PortLine}
-use Rattle.lines.specs.declared.port.PortLine.TheVariants as port
+use Rattle.trace.specs.Kinds.{Line}
 use Rattle.border.specs.Held.{held_by, is_held}
 use Rattle.border.specs.declared.held.Held.{Held}
 use Rattle.border.specs.declared.Asked.{Asked}
@@ -38,20 +35,20 @@ nothing = record { words = replicate 65 0; block = replicate 16 0 }
 
 -- 20 to 23, or the conversation begun
 abbrev pub opened : Res (Unit {0}) → Conv → Outcome
-opened (err e) c = stayed (error.number e) nothing
-opened (ok u) c = went c
+opened (Err e) c = stayed (error.number e) nothing
+opened (Ok u) c = went c
 
 unfoldable pub opens : Port → Operation → List ℕ → Outcome
 opens p what ws = opened (refusal p (phy_of what) (device_of what) (length ws)) (begun p what ws)
 
 -- 28 for a port or an operation that is none, or arguments that are not the operation's
-abbrev pub begins_line : Port → OperationLine → List ℕ → Outcome
-begins_line p line.Bad args = stayed 28 nothing
-begins_line p (line.Is what n) args = opens p what (take n args)
+abbrev pub begins_line : Port → Line → List ℕ → Outcome
+begins_line p None args = stayed 28 nothing
+begins_line p (Some (what, n)) args = opens p what (take n args)
 
-abbrev pub begins : PortLine → OperationLine → List ℕ → Outcome
-begins port.Bad l args = stayed 28 nothing
-begins (port.Is p) l args = begins_line p l args
+abbrev pub begins : Option Port → Line → List ℕ → Outcome
+begins None l args = stayed 28 nothing
+begins (Some p) l args = begins_line p l args
 
 -- a step's number, and the conversation where it is 0
 abbrev pub stepped : Step → Held → Outcome
@@ -99,8 +96,8 @@ abbrev pub saying : ℕ → List ℕ → ℕ → ℕ → Told
 saying e ws actions micros = record { number = 0; error = e; count = length ws; words = ws; actions = actions; micros = micros }
 
 abbrev pub answer : Res Value → ℕ → ℕ → Told
-answer (ok v) actions micros = saying 0 (value v) actions micros
-answer (err e) actions micros = saying (error.number e) (error.values e) actions micros
+answer (Ok v) actions micros = saying 0 (value v) actions micros
+answer (Err e) actions micros = saying (error.number e) (error.values e) actions micros
 
 -- 30 before the end
 abbrev pub answering : Talk Out → ℕ → ℕ → Told

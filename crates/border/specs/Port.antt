@@ -1,14 +1,13 @@
 -- A port from plain numbers
-use Rattle.std.specs.Prelude.{ℕ, eqb, ltb}
+use Rattle.std.specs.Prelude.{ℕ, eqb, ltb, Option, Some, None}
 use Rattle.hardware.specs.Talk.{pick}
 use Rattle.hardware.specs.declared.Family.TheVariants.{X552, X553}
-use Rattle.lines.specs.declared.port.PortLine.{PortLine}
-use Rattle.lines.specs.declared.port.PortLine.TheVariants.{Is, Bad}
+use Rattle.hardware.specs.declared.Port.{Port}
 
 -- 552 or 553, a device id of 16 bits, any lan
-unfoldable pub port_of : ℕ → ℕ → ℕ → PortLine
+unfoldable pub port_of : ℕ → ℕ → ℕ → Option Port
 port_of family device lan =
-    pick (ltb 65535 device) Bad
-    (pick (eqb family 552) (Is (record { family = X552; device = device; lan = lan }))
-    (pick (eqb family 553) (Is (record { family = X553; device = device; lan = lan }))
-    Bad))
+    pick (ltb 65535 device) None
+    (pick (eqb family 552) (Some (record { family = X552; device = device; lan = lan }))
+    (pick (eqb family 553) (Some (record { family = X553; device = device; lan = lan }))
+    None))

@@ -1,6 +1,5 @@
 // A conversation as the caller holds it: plain words, and its host block.
-ghost use Rattle.std.specs.Prelude.{true, ◌≡◌, length};
-ghost use Rattle.text.specs.Same.{same};
+ghost use Rattle.std.specs.Prelude.{true, ◌≡◌};
 ghost use Rattle.border.specs.Held.{words_of, conversation_of, held_by, is_held};
 
 use crate::p_started::{get_place, put_place};
@@ -21,30 +20,28 @@ pub struct Held {
 // All words of a conversation.
 #[tactic(auto, unfolding(crate::specs::Held::words_of, crate::specs::Held::conversation_of, packed_access::specs::Tape::word_at))]
 fn put_conversation(tape: &mut [u32; 65], c: Conversation)
-    ensures { (length tape.old ≡ 65 → tape.new ≡ words_of c) × (conversation_of (words_of c) c.block ≡ c) }
+    ensures written { tape.new ≡ words_of c }
+    ensures back { conversation_of (words_of c) c.block ≡ c }
 {
     let port = c.port;
-    let family = port.family;
-    let place = c.place;
     let at = word(tape, 0, wide(port.device));
     let at = word(tape, at, port.lan);
     let at = long(tape, at, c.actions as usize);
     let at = long(tape, at, c.micros as usize);
-    let at = put_family(tape, at, family);
-    put_place(tape, at, place);
+    let at = put_family(tape, at, port.family);
+    put_place(tape, at, c.place);
 }
 
 #[tactic(auto, unfolding(crate::specs::Held::conversation_of))]
 fn get_conversation(words: &[u32], block: [u32; 16]) -> Conversation
     ensures { result ≡ conversation_of words.now block }
 {
-    let port = Port {
-        family: get_family(words, 6),
-        device: half(word_at(words, 0, 0)),
-        lan: word_at(words, 0, 1),
-    };
     Conversation {
-        port,
+        port: Port {
+            family: get_family(words, 6),
+            device: half(word_at(words, 0, 0)),
+            lan: word_at(words, 0, 1),
+        },
         place: get_place(words, 7),
         block,
         actions: joined(word_at(words, 0, 2), word_at(words, 0, 3)) as u64,
@@ -52,25 +49,10 @@ fn get_conversation(words: &[u32], block: [u32; 16]) -> Conversation
     }
 }
 
-fn same_words(a: &[u32], b: &[u32]) -> bool
-    ensures { same a.now b.now ≡ result }
-{
-    if a.len() != b.len() {
-        return false;
-    }
-    let mut i = 0;
-    while i < a.len() {
-        if a[i] != b[i] {
-            return false;
-        }
-        i += 1;
-    }
-    true
-}
-
-#[tactic(auto, unfolding(crate::specs::Held::held_by, crate::specs::Held::is_held))]
+#[tactic(auto, using(text::proofs::SameLaws::same_self), unfolding(crate::specs::Held::held_by, crate::specs::Held::is_held))]
 pub fn hold(c: Conversation) -> Held
-    ensures { (held_by result ≡ c) × (is_held result ≡ true) }
+    ensures read_back { held_by result ≡ c }
+    ensures held { is_held result ≡ true }
 {
     let mut words = [0u32; 65];
     put_conversation(&mut words, c);
@@ -82,18 +64,15 @@ pub fn hold(c: Conversation) -> Held
 pub fn read_held(h: Held) -> Conversation
     ensures { result ≡ held_by h }
 {
-    let words = h.words;
-    let block = h.block;
-    get_conversation(&words, block)
+    get_conversation(&h.words, h.block)
 }
 
 // Whether the words are those of the conversation that they are read as. No others are ever given to the caller.
-#[tactic(auto, unfolding(crate::specs::Held::is_held))]
+#[tactic(auto, using(text::proofs::SameLaws::same_pointwise), unfolding(crate::specs::Held::is_held))]
 pub fn is_held(h: Held) -> bool
     ensures { is_held h ≡ result }
 {
     let mut own = [0u32; 65];
     put_conversation(&mut own, read_held(h));
-    let words = h.words;
-    same_words(&own, &words)
+    own == h.words
 }

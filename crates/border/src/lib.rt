@@ -7,23 +7,19 @@ pub mod p_started;
 pub mod port;
 
 ghost use Rattle.std.specs.Prelude.{◌≡◌, take};
-ghost use Rattle.bringup.specs.Answer.{answer_of};
 ghost use Rattle.trace.specs.Operation.{by_name};
-ghost use Rattle.border.specs.Border.{outcome_of, begins, opens, steps, asks, answer, no_answer, answers, answered_of, runs, ran_of};
+ghost use Rattle.border.specs.Border.{stayed, nothing, outcome_of, begins, opens, steps, asks, none, answer, saying, no_answer, answers, answered_of, runs, ran_of};
 ghost use Rattle.border.specs.Port.{port_of};
 
 use crate::held::{Held, hold, is_held, read_held};
 use crate::port::port_of;
-use answers::Answer;
-use answers::fields::{error_fields, error_number, fields_of};
+use answers::Value;
+use answers::fields::{Fields, error_fields, error_number, fields_of};
 use conversation::conversation::Conversation;
 use conversation::run::run;
 use drive::{kind_of, register_of, value_of};
-use hardware::{Port, Unit};
-use lines::port::PortLine;
+use hardware::{Error, Port, Step};
 use start::operation::Operation;
-use started::operation::Place;
-use trace::kinds::OperationLine;
 use trace::operation::named;
 
 // What `mansruoy_begin` and `mansruoy_step` answer: 0 and the conversation as it is now, or a number and what was handed in.
@@ -73,21 +69,19 @@ const NOTHING: Held = Held {
 };
 
 // Begins an operation that is not turned away; its host block is lent.
+#[tactic(auto, using(crate::proofs::Laws::error_number_lem), unfolding(crate::specs::Border::opens, crate::specs::Border::outcome_of))]
 fn open(port: Port, what: Operation, block: &[u32]) -> Stepped
     ensures { outcome_of result.number result.to ≡ opens port what block.now }
 {
     match port.refusal(what.phy(), what.device(), block.len()) {
-        Unit::Err(e) => Stepped {
+        Err(e) => Stepped {
             number: error_number(e),
             to: NOTHING,
         },
-        Unit::Ok => {
-            let c = Conversation::begin(port, what, block);
-            Stepped {
-                number: 0,
-                to: hold(c),
-            }
-        }
+        Ok(()) => Stepped {
+            number: 0,
+            to: hold(Conversation::begin(port, what, block)),
+        },
     }
 }
 
@@ -95,53 +89,55 @@ fn open(port: Port, what: Operation, block: &[u32]) -> Stepped
 fn begin_at(port: Port, what: Operation, arguments: &[u32], n: usize) -> Stepped
     ensures { outcome_of result.number result.to ≡ opens port what (take n arguments.now) }
 {
-    if n > arguments.len() {
-        return open(port, what, arguments);
+    open(port, what, arguments.get(..n).unwrap_or(arguments))
+}
+
+// No such family, device or operation, or arguments that are not the operation's.
+#[tactic(auto, unfolding(crate::specs::Border::outcome_of))]
+fn none_begun() -> Stepped
+    ensures { outcome_of result.number result.to ≡ stayed 28 nothing }
+{
+    Stepped {
+        number: 28,
+        to: NOTHING,
     }
-    open(port, what, &arguments[..n])
 }
 
 // Begins the operation of this name, with the arguments of the tracer's second line.
 pub fn mansruoy_begin(family: u32, device: u32, lan: u32, name: &[u8], arguments: &[u32]) -> Stepped
     ensures { outcome_of result.number result.to ≡ begins (port_of family device lan) (by_name name.now arguments.now) arguments.now }
 {
-    match port_of(family, device, lan) {
-        PortLine::Bad => Stepped {
-            number: 28,
-            to: NOTHING,
-        },
-        PortLine::Is(port) => match named(name, arguments) {
-            OperationLine::Bad => Stepped {
-                number: 28,
-                to: NOTHING,
-            },
-            OperationLine::Is(what, n) => begin_at(port, what, arguments, n),
-        },
+    let Some(port) = port_of(family, device, lan) else {
+        return none_begun();
+    };
+    let Some((what, n)) = named(name, arguments) else {
+        return none_begun();
+    };
+    begin_at(port, what, arguments, n)
+}
+
+fn no_action(number: u32) -> Asked
+    ensures { result ≡ none number }
+{
+    Asked {
+        number,
+        kind: 0,
+        register: 0,
+        value: 0,
     }
 }
 
 // What the host is to do next.
+#[tactic(auto, unfolding(crate::specs::Border::asks))]
 pub fn mansruoy_action(c: Held) -> Asked
     ensures { result ≡ asks c }
 {
     if !is_held(c) {
-        return Asked {
-            number: 29,
-            kind: 0,
-            register: 0,
-            value: 0,
-        };
+        return no_action(29);
     }
-    let conversation = read_held(c);
-    let place = conversation.place;
-    match place {
-        Place::Ended(_, _) => Asked {
-            number: 24,
-            kind: 0,
-            register: 0,
-            value: 0,
-        },
-        Place::Asks(a, _) => Asked {
+    match read_held(c).place {
+        Step::Done(_) => no_action(24),
+        Step::Ask(a, _) => Asked {
             number: 0,
             kind: kind_of(a),
             register: register_of(a),
@@ -151,6 +147,7 @@ pub fn mansruoy_action(c: Held) -> Asked
 }
 
 // One action is answered with a reply's two words.
+#[tactic(auto, unfolding(crate::specs::Border::steps, crate::specs::Border::outcome_of))]
 pub fn mansruoy_step(c: Held, kind: u32, value: u32) -> Stepped
     ensures { outcome_of result.number result.to ≡ steps c kind value }
 {
@@ -158,48 +155,34 @@ pub fn mansruoy_step(c: Held, kind: u32, value: u32) -> Stepped
         return Stepped { number: 29, to: c };
     }
     let s = read_held(c).step(kind, value);
-    let stop = s.stop;
-    let number = stop.number();
-    if number != 0 {
-        return Stepped { number, to: c };
-    }
-    let to = s.to;
-    Stepped {
-        number,
-        to: hold(to),
+    match s.stop.number() {
+        0 => Stepped {
+            number: 0,
+            to: hold(s.to),
+        },
+        number => Stepped { number, to: c },
     }
 }
 
-fn answer_words(what: Answer, actions: u64, micros: u64) -> Answered
-    ensures { answered_of result ≡ answer (answer_of what) actions micros }
+fn saying(error: u32, words: Fields, actions: u64, micros: u64) -> Answered
+    ensures { answered_of result ≡ saying error words actions micros }
+{
+    Answered {
+        number: 0,
+        error,
+        count: words.count(),
+        actions,
+        micros,
+        words: words.to_array(),
+    }
+}
+
+fn answer_words(what: Result<Value, Error>, actions: u64, micros: u64) -> Answered
+    ensures { answered_of result ≡ answer what actions micros }
 {
     match what {
-        Answer::Ok(v) => {
-            let f = fields_of(v);
-            let words = f.words;
-            let count = f.count();
-            Answered {
-                number: 0,
-                error: 0,
-                count,
-                actions,
-                micros,
-                words,
-            }
-        }
-        Answer::Err(e) => {
-            let f = error_fields(e);
-            let words = f.words;
-            let count = f.count();
-            Answered {
-                number: 0,
-                error: error_number(e),
-                count,
-                actions,
-                micros,
-                words,
-            }
-        }
+        Ok(v) => saying(0, fields_of(v), actions, micros),
+        Err(e) => saying(error_number(e), error_fields(e), actions, micros),
     }
 }
 
@@ -217,23 +200,22 @@ fn no_answer(number: u32, actions: u64, micros: u64) -> Answered
 }
 
 // The answer of a conversation that has ended.
+#[tactic(auto, unfolding(crate::specs::Border::answers))]
 pub fn mansruoy_answer(c: Held) -> Answered
     ensures { answered_of result ≡ answers c }
 {
     if !is_held(c) {
         return no_answer(29, 0, 0);
     }
-    let conversation = read_held(c);
-    let actions = conversation.actions;
-    let micros = conversation.micros;
-    let place = conversation.place;
-    match place {
-        Place::Asks(_, _) => no_answer(30, actions, micros),
-        Place::Ended(answer, _) => answer_words(answer, actions, micros),
+    let of = read_held(c);
+    match of.place {
+        Step::Ask(_, _) => no_answer(30, of.actions, of.micros),
+        Step::Done(ended) => answer_words(ended.answer, of.actions, of.micros),
     }
 }
 
 // Runs a conversation over a script of replies, into a transcript from place `at` on.
+#[tactic(auto, using(crate::proofs::Laws::stop_number), unfolding(crate::specs::Border::runs, crate::specs::Border::ran_of))]
 pub fn mansruoy_run(c: Held, replies: &[u32], transcript: &mut [u32], at: usize) -> Ran
     ensures { ran_of result transcript.new ≡ runs c replies.now transcript.old at }
 {
@@ -246,11 +228,9 @@ pub fn mansruoy_run(c: Held, replies: &[u32], transcript: &mut [u32], at: usize)
         };
     }
     let r = run(read_held(c), replies, transcript, at);
-    let stop = r.stop;
-    let to = r.to;
     Ran {
-        number: stop.number(),
-        to: hold(to),
+        number: r.stop.number(),
+        to: hold(r.to),
         at: r.at,
         used: r.used,
     }

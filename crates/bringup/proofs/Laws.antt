@@ -1,9 +1,9 @@
 -- What comes after a setup, inside its choices
+use Rattle.hardware.specs.Talk.{Call, ◌>>=◌, ◌>>◌, pick, is_clear, read, return}
 use Prim.Native.Nat.{ℕ}
 use mathlib.Core.Bool.{Bool, true, false}
-use mathlib.Core.Option.{Option, none, some}
+use Rattle.std.specs.Prelude.{Option, Some, None}
 use mathlib.Core.Path.{◌≡◌, refl, ap, sym, ◌∙◌, fun_ext}
-use Rattle.hardware.specs.Talk.{Call, ◌>>=◌, ◌>>◌, pick, is_clear, read, return}
 use Rattle.hardware.specs.declared.Family.TheVariants.{X553}
 use Rattle.hardware.specs.declared.Port.{Port}
 use Rattle.answers.specs.declared.Setup553.{Setup553}
@@ -56,12 +56,12 @@ module _ (port : Port) (veto kr : Bool) where
 
 -- `set_mdio_speed`, by what the clock is set to, and what comes after it
 abbrev pub clock_first : Option Bool → Call Value → Call Value
-clock_first none after = after
-clock_first (some fast) after = mdio_clock fast >> after
+clock_first None after = after
+clock_first (Some fast) after = mdio_clock fast >> after
 
 module _ (after : Call Value) where
   speeds : (slow fast : Bool)
-      → clock_first (pick slow (some false) (pick fast (some true) none)) after ≡ pick slow (mdio_clock false >> after) (pick fast (mdio_clock true >> after) after)
+      → clock_first (pick slow (Some false) (pick fast (Some true) None)) after ≡ pick slow (mdio_clock false >> after) (pick fast (mdio_clock true >> after) after)
   speeds true fast = refl
   speeds false true = refl
   speeds false false = refl

@@ -1,6 +1,9 @@
 -- What a suspended `bringup` still says, from what its job gives. Each setup stands here as it is for its devices
+use Rattle.access.specs.declared.access.Job.{Job}
+use Rattle.access.specs.Access.{told_job}
+use Rattle.hardware.specs.declared.Step.{Step}
+use Rattle.hardware.specs.Talk.{Call, Res, end, pick, is_clear, ◌>>=◌, ◌>>◌, return}
 use Rattle.std.specs.Prelude.{ℕ, Bool, true, List}
-use Rattle.hardware.specs.Talk.{Call, Res, end, and_then, pick, is_clear, ◌>>=◌, ◌>>◌, return}
 use Rattle.hardware.specs.declared.Family.{Family}
 use Rattle.hardware.specs.declared.Family.TheVariants.{X552, X553}
 use Rattle.hardware.specs.declared.Port.{Port}
@@ -16,7 +19,6 @@ use Rattle.reference.specs.X552.{kr_autoneg, copper_link, vetoed}
 use Rattle.reference.specs.X552 as x552
 use Rattle.reference.specs.X553.{sgmii, prepare_device, setup_prepared}
 use Rattle.reference.specs.X553 as x553
-use Rattle.access.specs.Access.{job_talk}
 use Rattle.kr.specs.Sequence.{resume_sequence}
 use Rattle.phy.specs.Clock.{resume_clock}
 use Rattle.x552.specs.Link.{resume_link}
@@ -25,11 +27,8 @@ use Rattle.x552.specs.declared.link.Copper.{Copper}
 use Rattle.x553.specs.Firmware.{resume_firmware}
 use Rattle.x553.specs.Prepare as firmware
 use Rattle.x553.specs.Sgmii.{resume_sgmii}
-use Rattle.bringup.specs.Answer.{answer_of}
 use Rattle.bringup.specs.declared.Bringup.{Bringup}
 use Rattle.bringup.specs.declared.Bringup.TheVariants as bringup
-use Rattle.bringup.specs.declared.BringupStep.{BringupStep}
-use Rattle.bringup.specs.declared.BringupStep.TheVariants as bringupstep
 use Rattle.bringup.specs.declared.Lane.{Lane}
 use Rattle.bringup.specs.declared.Lane.TheVariants as lane
 
@@ -98,6 +97,5 @@ resume_bringup port veto (bringup.Sgmii s) got ws = answer553 (resume_sgmii port
 resume_bringup port veto (bringup.Link x s) got ws = link_then port (resume_link port (copper_of veto x) s got)
 resume_bringup port veto (bringup.SetupFirmware s) got ws = answer553 (resume_firmware port s got ws)
 
-abbrev pub told_bringup : Port → Bool → List ℕ → BringupStep → Call Value
-told_bringup port veto b (bringupstep.Ask job s) = and_then (job_talk port job b) (λ p. resume_bringup port veto s p.0 p.1)
-told_bringup port veto b (bringupstep.Done a) = end (answer_of a)
+abbrev pub told_bringup : Port → Bool → List ℕ → Step Job Bringup (Res Value) → Call Value
+told_bringup port veto b = told_job port b (λ s got ws. resume_bringup port veto s got ws)

@@ -1,7 +1,7 @@
 // What is printed at the conversation's end.
-use answers::Answer;
+use answers::Value;
 use conversation::conversation::Conversation;
-use hardware::Unit;
+use hardware::Error;
 use std::io;
 use std::io::Write;
 use streams::ending::{last, print_left};
@@ -14,14 +14,11 @@ fn left<W: Write>(
     out: &mut [u8],
     n: usize,
 ) -> io::Result<usize> {
-    if words == 0 {
-        return Ok(n);
-    }
-    if words > 16 {
+    if words == 0 || words > 16 {
         return Ok(n);
     }
     let mut host = [0u32; 16];
-    if let Unit::Err(_) = c.hand_back(&mut host[0..words]) {
+    if c.hand_back(&mut host[..words]).is_err() {
         return Ok(n);
     }
     print_left(host, words as u32, sink, out, n)
@@ -29,7 +26,7 @@ fn left<W: Write>(
 
 // The last line, and the host block's where it is asked for.
 pub fn ended<W: Write>(
-    answer: Answer,
+    answer: Result<Value, Error>,
     words: usize,
     c: Conversation,
     asked: bool,

@@ -6,31 +6,27 @@ use crate::ahead::Moved;
 use crate::talk::{Listed, talk};
 use conversation::conversation::Conversation;
 use hardware::Port;
-use lines::port::{PortLine, port_line};
+use lines::port::port_line;
 use start::operation::Operation;
 use std::io;
 use std::io::{Read, Write};
-use streams::due::BAD_LINE;
+use streams::due::Fault;
 use streams::ending::stop;
-use streams::input::{Input, fetch};
+use streams::input::{Fetched, Input, fetch};
 use streams::part::line_of;
-use trace::kinds::OperationLine;
 use trace::operation::operation_line;
 
 // The first words of the arguments are the host block.
 fn begin(port: Port, what: Operation, args: &[u32], words: usize) -> Conversation
     ensures { conv_of result ≡ begun port what (take words args.now) }
 {
-    if words > args.len() {
-        return Conversation::begin(port, what, args);
-    }
-    Conversation::begin(port, what, &args[..words])
+    Conversation::begin(port, what, args.get(..words).unwrap_or(args))
 }
 
 // 25 where a line was missing or cannot be read.
 fn opened<R: Read, W: Write>(
-    port: PortLine,
-    what: OperationLine,
+    port: Option<Port>,
+    what: Option<(Operation, usize)>,
     args: &[u32; 17],
     source: &mut R,
     buf: &mut [u8],
@@ -40,15 +36,11 @@ fn opened<R: Read, W: Write>(
     n: usize,
     asked: bool,
 ) -> io::Result<Listed> {
-    let PortLine::Is(p) = port else {
-        let end = stop(BAD_LINE, 0, 0, sink, out, n)?;
+    let (Some(port), Some((operation, words))) = (port, what) else {
+        let end = stop(Fault::BadLine.number(), 0, 0, sink, out, n)?;
         return Ok(Listed { input, n: end });
     };
-    let OperationLine::Is(operation, words) = what else {
-        let end = stop(BAD_LINE, 0, 0, sink, out, n)?;
-        return Ok(Listed { input, n: end });
-    };
-    let to = begin(p, operation, args, words);
+    let to = begin(port, operation, args, words);
     talk(Moved { to, input, n }, source, buf, sink, out, asked)
 }
 
@@ -64,13 +56,9 @@ pub fn listing<R: Read, W: Write>(
     asked: bool,
 ) -> io::Result<Listed> {
     let mut args = [0u32; 17];
-    let first = fetch(source, buf, input);
-    let next = first.next;
-    let rest = first.input;
+    let Fetched { next, input } = fetch(source, buf, input);
     let port = port_line(line_of(buf, next));
-    let second = fetch(source, buf, rest);
-    let next = second.next;
-    let rest = second.input;
+    let Fetched { next, input } = fetch(source, buf, input);
     let what = operation_line(line_of(buf, next), &mut args);
-    opened(port, what, &args, source, buf, rest, sink, out, n, asked)
+    opened(port, what, &args, source, buf, input, sink, out, n, asked)
 }

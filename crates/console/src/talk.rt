@@ -2,11 +2,11 @@
 use crate::ahead::{Moved, ahead};
 use crate::ending::ended;
 use crate::turn::turn;
-use conversation::conversation::Conversation;
-use started::operation::Place;
+use conversation::conversation::{Conversation, Stop};
+use hardware::Step;
 use std::io;
 use std::io::{Read, Write};
-use streams::due::{Due, answer};
+use streams::due::{Answered, answer};
 use streams::ending::stop;
 use streams::input::Input;
 use streams::output::print;
@@ -18,35 +18,24 @@ pub struct Listed {
     pub n: usize,
 }
 
-// Where a listing has come to, and the number that it stops with, 0 while it goes on.
+// Where a listing has come to, and the number that it stops with, or nothing while it goes on.
 #[derive(Clone, Copy)]
 struct Came {
     moved: Moved,
-    number: u32,
-}
-
-const AFTER_END: u32 = 24;
-
-// A reply's two words; a wait uses none of them.
-fn pair_of(due: Due) -> [u32; 2] {
-    match due {
-        Due::Reply(kind, value) => [kind, value],
-        Due::Nothing => [0, 0],
-        Due::Stop(_) => [0, 0],
-    }
+    number: Option<u32>,
 }
 
 // One action is done, and its line printed.
 fn act<W: Write>(
     c: Conversation,
     input: Input,
-    pair: [u32; 2],
+    (kind, value): (u32, u32),
     sink: &mut W,
     out: &mut [u8],
     n: usize,
 ) -> io::Result<Moved> {
     let mut line = [0u8; 512];
-    let t = turn(c, &pair, &mut line);
+    let t = turn(c, &[kind, value], &mut line);
     let to = t.to;
     Ok(Moved {
         to,
@@ -63,51 +52,44 @@ fn onward<R: Read, W: Write>(
     sink: &mut W,
     out: &mut [u8],
 ) -> io::Result<Came> {
-    let place = from.to.place;
-    let Place::Asks(a, _) = place else {
+    let Step::Ask(a, _) = from.to.place else {
         return Ok(Came {
             moved: from,
-            number: AFTER_END,
+            number: Some(Stop::AfterEnd.number()),
         });
     };
-    let d = answer(a, source, buf, from.input);
-    let due = d.due;
-    let input = d.input;
-    let c = from.to;
-    if let Due::Stop(number) = due {
-        let moved = Moved {
-            to: c,
-            input,
-            n: from.n,
-        };
-        return Ok(Came { moved, number });
-    }
-    let one = act(c, input, pair_of(due), sink, out, from.n)?;
+    let Answered { due, input } = answer(a, source, buf, from.input);
+    let pair = match due {
+        // a wait uses none of the two words
+        Ok(reply) => reply.unwrap_or((0, 0)),
+        Err(fault) => {
+            return Ok(Came {
+                moved: Moved { input, ..from },
+                number: Some(fault.number()),
+            });
+        }
+    };
+    let one = act(from.to, input, pair, sink, out, from.n)?;
     Ok(Came {
         moved: ahead(one, buf, sink, out)?,
-        number: 0,
+        number: None,
     })
 }
 
 // The last lines.
 fn finish<W: Write>(at: Came, sink: &mut W, out: &mut [u8], asked: bool) -> io::Result<Listed> {
-    let m = at.moved;
-    let c = m.to;
-    let input = m.input;
-    let place = c.place;
-    Ok(match place {
-        Place::Ended(answer, words) => Listed {
-            input,
-            n: ended(answer, words, c, asked, sink, out, m.n)?,
-        },
-        Place::Asks(_, _) => Listed {
-            input,
-            n: stop(at.number, c.actions, c.micros, sink, out, m.n)?,
-        },
-    })
+    let Moved { to: c, input, n } = at.moved;
+    let n = match c.place {
+        Step::Done(end) => ended(end.answer, end.words, c, asked, sink, out, n)?,
+        Step::Ask(_, _) => {
+            let number = at.number.unwrap_or(0);
+            stop(number, c.actions, c.micros, sink, out, n)?
+        }
+    };
+    Ok(Listed { input, n })
 }
 
-// No conversation is as long as the turns that are counted down.
+// No conversation is as long as the turns that are counted.
 pub fn talk<R: Read, W: Write>(
     from: Moved,
     source: &mut R,
@@ -118,16 +100,13 @@ pub fn talk<R: Read, W: Write>(
 ) -> io::Result<Listed> {
     let mut at = Came {
         moved: from,
-        number: 0,
+        number: None,
     };
-    let mut turns: u64 = u64::MAX;
-    while turns > 0 {
-        if at.number != 0 {
+    for _ in 0..u64::MAX {
+        if at.number.is_some() {
             break;
         }
-        let moved = at.moved;
-        at = onward(moved, source, buf, sink, out)?;
-        turns -= 1;
+        at = onward(at.moved, source, buf, sink, out)?;
     }
     finish(at, sink, out, asked)
 }

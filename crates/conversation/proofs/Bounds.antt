@@ -1,8 +1,8 @@
 -- How long each operation is at the most
-use Rattle.std.proofs.Common.{◌≡◌, ℕ, ◌^◌, ◌<◌, ◌≤◌, List, length, refl, arith}
+use Rattle.hardware.specs.Talk.{Talk, Res}
+use Rattle.std.proofs.Common.{◌≡◌, ℕ, ◌^◌, ◌<◌, ◌≤◌, List, length, refl, arith, Err, Ok}
 use Rattle.hardware.specs.Bound.{Within, at_end}
 use Rattle.hardware.specs.Refusal.{refusal}
-use Rattle.hardware.specs.Talk.{Talk, Res, ok, err}
 use Rattle.hardware.specs.declared.Port.{Port}
 use Rattle.hardware.proofs.Refusal.{Taken, taken}
 use Rattle.reference.specs.Bounds.{actions, micros}
@@ -56,9 +56,9 @@ short_begun port what ws = go (refusal port (phy_of what) (device_of what) (leng
     op : Op
     op = op_of what ws
 
-    go : (r : Res (Unit {0})) → (r ≡ ok tt → Taken port (phy_of what) (device_of what) (length ws)) → Short (started (operation port op) r)
-    go (err e) known = record { actions = 0; micros = 0; within = at_end; of_actions = omega arith; of_micros = omega arith }
-    go (ok u) known =
+    go : (r : Res (Unit {0})) → (r ≡ Ok tt → Taken port (phy_of what) (device_of what) (length ws)) → Short (started (operation port op) r)
+    go (Err e) known = record { actions = 0; micros = 0; within = at_end; of_actions = omega arith; of_micros = omega arith }
+    go (Ok u) known =
         let fits = fits_begun what ws (known refl).words in
         record {
           actions = actions op;

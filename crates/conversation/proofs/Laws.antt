@@ -1,13 +1,12 @@
 -- What the code's functions need of the definitions
-use Rattle.std.proofs.Common.{◌≡◌, ℕ, suc, ◌+◌, ◌-◌, ◌<◌, ◌≤◌, true, false, List, [], ◌∷◌, ◌++◌, length, get_or, take, drop, set, replicate, sym, refl, ap, ◌∙◌, append-nil, add-zero, add_assoc, add-suc, suc-add, zero-add, add-one, arith, length-drop, take-append-drop, drop_of_length-le, length-take-le, take_all, drop-cons, drop-drop, take_at, le-ltb, lt-ltb}
+use Rattle.hardware.specs.Talk.{Talk, ask, end, Reply}
+use Rattle.std.proofs.Common.{◌≡◌, ℕ, suc, ◌+◌, ◌-◌, ◌<◌, ◌≤◌, true, false, List, [], ◌∷◌, ◌++◌, length, get_or, take, drop, set, replicate, sym, refl, ap, ◌∙◌, append-nil, add-zero, add_assoc, add-suc, suc-add, zero-add, add-one, arith, length-drop, take-append-drop, drop_of_length-le, length-take-le, take_all, drop-cons, drop-drop, take_at, le-ltb, lt-ltb, Ok}
 use native.Mathlib.Numerals.{add-two}
 use lib.Seq.{sets, length-sets, paste, paste-suc, take-length, length-paste}
 use Rattle.hardware.specs.Refusal.{refusal}
-use Rattle.hardware.specs.Talk.{Talk, ask, end, ok}
 use Rattle.hardware.specs.declared.Port.{Port}
 use Rattle.reference.specs.Operations.{operation}
 use Rattle.hardware.specs.declared.Action.{Action}
-use Rattle.hardware.specs.declared.Reply.{Reply}
 use Rattle.drive.specs.Act.{uses, words, reply_for}
 use Rattle.drive.specs.Moves.{Tape, on_tape, tape, Moves, stays, goes}
 use Rattle.drive.specs.declared.Host.{Host}
@@ -34,24 +33,10 @@ use Rattle.conversation.specs.Run.{
 use Rattle.conversation.specs.declared.conversation.Stop.TheVariants.{Done, AfterEnd, BadReply, NoReply, NoRoom}
 use Rattle.conversation.specs.declared.conversation.Conversation as code
 use Rattle.start.specs.declared.operation.Operation.{Operation}
-use Rattle.started.specs.declared.operation.Place.{Place}
+use Rattle.hardware.specs.declared.Step.{Step}
+use Rattle.operations.specs.declared.Ended.{Ended}
+use Rattle.started.specs.declared.operation.Op.{Op}
 use Rattle.conversation.specs.declared.run.Ran.{Ran}
-
--- one more word is copied to the front of a block
-pub copy_suc : (d s : List ℕ) (j : ℕ) → j < length d → j < length s → set (paste d 0 s j) j (get_or s j 0) ≡ paste d 0 s (j + 1)
-copy_suc d s j h k =
-    let h' : 0 + j < length d = omega arith in
-    simp (add-one, zero-add) (simp zero-add at (paste-suc d 0 s j 0 h' k))
-
--- all of them are, to a block of the same length
-module _ (d s : List ℕ) (same : length d ≡ length s) where
-  pub copy_length : {i : ℕ} {b : List ℕ} → i ≤ length s → b ≡ paste d 0 s i → length b ≡ length s
-  copy_length {i} h e = ap length e ∙ length-paste d 0 s i (omega arith) h ∙ same
-
-  pub copy_all : paste d 0 s (length s) ≡ s
-  copy_all =
-      let short : length d ≤ length s = omega arith in
-      simp (take-length, zero-add, drop_of_length-le d short, append-nil)
 
 -- the words under it are still in a block that was padded
 pub take_padded : (ws : List ℕ) → take (length ws) (padded ws) ≡ ws
@@ -59,7 +44,7 @@ take_padded ws = take_at ws (drop (length ws) (replicate 16 0)) (length ws) refl
 
 -- a call that is not turned away begins with the operation, on the words that were copied
 pub not_refused : (port : Port) (what : Operation) (ws block : List ℕ) {t : Talk Out} {phy device : ℕ} → phy_of what ≡ phy → device_of what ≡ device
-    → refusal port phy device (length ws) ≡ ok tt → block ≡ padded ws → t ≡ operation port (op_of what (take (length ws) block))
+    → refusal port phy device (length ws) ≡ Ok tt → block ≡ padded ws → t ≡ operation port (op_of what (take (length ws) block))
     → opening port t ≡ begun port what ws
 not_refused port what ws block {t} p d r b e =
     let words : take (length ws) block ≡ ws = ap (take (length ws)) b ∙ take_padded ws in
@@ -67,8 +52,8 @@ not_refused port what ws block {t} p d r b e =
     ap (opening port) says ∙ rw (p, d, r)
 
 -- what a conversation says where it stands at a place that is known
-pub at_place : (c : code.Conversation) {p : Place} → c.place ≡ p → (conv_of c).talk ≡ told c.port p c.block
-at_place c e = ap (λ (p : Place). told c.port p c.block) e
+pub at_place : (c : code.Conversation) {p : Step Action Op Ended} → c.place ≡ p → (conv_of c).talk ≡ told c.port p c.block
+at_place c e = ap (λ (p : Step Action Op Ended). told c.port p c.block) e
 
 -- a step of a conversation that asks for an action
 module _ (c : Conv) (kind value : ℕ) {a : Action} {k : Reply → Talk Out} (e : c.talk ≡ ask a k) where
@@ -78,29 +63,22 @@ module _ (c : Conv) (kind value : ℕ) {a : Action} {k : Reply → Talk Out} (e 
   pub step_done : {r : Reply} {to : Conv} → refuses a kind ≡ false → reply_for a (kind ∷ value ∷ []) ≡ r → to ≡ gone c a (k r) → record { stop = Done; to = to } ≡ step_talk c kind value
   step_done h er eto = rw (e, eto, ← er, h)
 
--- the script's check, from a place on
+-- the script's check, two words at a time
+pub bad_short : (rs : List ℕ) → 0 < length rs → length rs < 2 → bad rs ≡ true
+bad_short [] h k = absurd (omega (arith, h))
+bad_short (kind ∷ []) h k = refl
+bad_short (kind ∷ value ∷ rs) h k = absurd (omega (arith, k))
 
-module _ (rs : List ℕ) (i : ℕ) where
-  pub bad_end : length rs ≤ i → bad (drop i rs) ≡ false
-  bad_end h = simp (drop_of_length-le rs h)
+pub bad_first : (p q : List ℕ) → 2 ≤ length p → 1 < get_or p 0 0 → bad (p ++ q) ≡ true
+bad_first [] q h k = absurd (omega (arith, h))
+bad_first (kind ∷ []) q h k = absurd (omega (arith, h))
+bad_first (kind ∷ value ∷ p) q h k = simp (lt-ltb _ _ k)
 
-  pub bad_odd : i < length rs → length rs - i < 2 → bad (drop i rs) ≡ true
-  bad_odd h k =
-      let k₁ : length rs ≤ suc i = omega arith in
-      let e : drop (suc i) rs ≡ [] = drop_of_length-le rs k₁ in
-      rw (drop-cons rs i 0 h, e)
-
-  two : i + 2 ≤ length rs → drop i rs ≡ get_or rs i 0 ∷ get_or rs (i + 1) 0 ∷ drop (i + 2) rs
-  two h =
-      let h₁ : i < length rs = omega arith in
-      let h₂ : suc i < length rs = omega arith in
-      simp (add-one, add-two) (drop-cons rs i 0 h₁ ∙ ap (λ (l : List ℕ). get_or rs i 0 ∷ l) (drop-cons rs (suc i) 0 h₂))
-
-  pub bad_kind : i + 2 ≤ length rs → 1 < get_or rs i 0 → bad (drop i rs) ≡ true
-  bad_kind h k = rw (two h) (simp (lt-ltb _ _ k))
-
-  pub bad_next : i + 2 ≤ length rs → get_or rs i 0 ≤ 1 → bad (drop i rs) ≡ bad (drop (i + 2) rs)
-  bad_next h k = rw (two h) (simp (le-ltb _ _ k))
+pub bad_then : (p q : List ℕ) → length p ≡ 2 → get_or p 0 0 ≤ 1 → bad (p ++ q) ≡ bad q
+bad_then [] q h k = absurd (omega (arith, h))
+bad_then (kind ∷ []) q h k = absurd (omega (arith, h))
+bad_then (kind ∷ value ∷ []) q h k = simp (le-ltb _ _ k)
+bad_then (kind ∷ value ∷ w ∷ p) q h k = absurd (omega (arith, h))
 
 -- how a run goes on, and where it stops
 
@@ -134,12 +112,6 @@ module _ (p : Port) {rs : List ℕ} {m₀ m : Talk Out} {t₀ t : Tape} (q : Mov
     run_dry h k' =
         let here : shown p t (stopped m NoReply) ≡ run_on p m rs t = rw e (simp (le-ltb _ _ h, length-drop, lt-ltb _ _ k')) in
         here ∙ run_moves p q
-
--- one action of it, from what the code's calls gave
-pub one_moves : {rs t t' : List ℕ} {h h' : Host} {a : Action} {k : Reply → Talk Out} {m : Talk Out} {reply : Reply} → h.at + 3 ≤ length t → h.used + uses a ≤ length rs
-    → reply_for a (drop h.used rs) ≡ reply → tape h' t' ≡ on_tape (tape h t) a → m ≡ k reply
-    → Moves rs (ask a k) (tape h t) m (tape h' t')
-one_moves room need er et em = told_as (sym em) (act_done (record { what = (omega arith, omega arith, er, et) }) refl stays)
 
 -- a run into the part of a transcript that starts at its write place
 

@@ -1,11 +1,10 @@
 -- A talk's runs: stopping and going on, the room, and what is left on the tape
+use Rattle.hardware.specs.Talk.{Talk, ask, end, pick, Reply}
 use Rattle.std.proofs.Common.{◌≡◌, ℕ, suc, ◌+◌, ◌-◌, ◌*◌, ◌%◌, ◌^◌, ◌<◌, ◌≤◌, Bool, true, false, ltb, List, [], ◌∷◌, ◌++◌, length, get_or, drop, set, sym, refl, ap, ◌∙◌, add-zero, add-suc, suc-add, arith, length-append, drop-drop, ltb-false, ltb-true, le-ltb, lt-ltb}
 use lib.ListN.{get_or-append}
 use lib.Seq.{drop-append-le, sets, length-sets}
-use Rattle.hardware.specs.Talk.{Talk, ask, end, pick}
 use Rattle.hardware.specs.declared.Action.{Action}
 use Rattle.hardware.specs.declared.Action.TheVariants.{Read, Write, Wait}
-use Rattle.hardware.specs.declared.Reply.{Reply}
 use Rattle.drive.specs.Act.{uses, words, reply_of, reply_for, used_by, waited_by, words_of}
 use Rattle.drive.specs.Moves.{Tape, on_tape}
 use Rattle.conversation.specs.Run.{Run, stopped, before, run_talk, joined, after}

@@ -1,12 +1,10 @@
 -- What holds of every conversation
-use Rattle.std.proofs.Common.{◌≡◌, ℕ, suc, ◌+◌, ◌-◌, ◌*◌, ◌%◌, ◌^◌, ◌≤◌, Bool, true, false, ltb, List, [], ◌∷◌, ◌++◌, length, take, drop, sym, refl, ap, ◌∙◌, ap₂, true≢false, add-zero, add_assoc, zero-add, arith, length-append, length-take-le, drop-drop, take_at, drop_at, le-ltb}
+use Rattle.hardware.specs.Talk.{Talk, ask, end, pick, Reply}
+use Rattle.std.proofs.Common.{◌≡◌, ℕ, suc, ◌+◌, ◌-◌, ◌*◌, ◌%◌, ◌^◌, ◌≤◌, Bool, true, false, ltb, List, [], ◌∷◌, ◌++◌, length, take, drop, sym, refl, ap, ◌∙◌, ap₂, true≢false, add-zero, add_assoc, zero-add, arith, length-append, length-take-le, drop-drop, take_at, drop_at, le-ltb, Ok}
 use lib.Seq.{drop-append-le, sets, sets-eq, slice, slice_empty}
-use Rattle.hardware.specs.Talk.{Talk, ask, end, pick}
 use Rattle.hardware.specs.declared.Action.{Action}
 use Rattle.hardware.specs.declared.Action.TheVariants.{Read, Write, Wait}
 use Rattle.hardware.specs.declared.Port.{Port}
-use Rattle.hardware.specs.declared.Reply.{Reply}
-use Rattle.hardware.specs.declared.Reply.TheVariants as reply
 use Rattle.drive.specs.Act.{uses, words, reply_of, reply_for, used_by, waited_by, words_of}
 use Rattle.hardware.specs.Bound.{Ends, Within, at_end, at_ask}
 use Rattle.conversation.specs.Conversation.{Conv, conv, begun, gone, step_on, step_talk}
@@ -315,8 +313,8 @@ module _ (c : Conv) (kind value : ℕ) (t : List ℕ) (at : ℕ) (k : Reply → 
       let n = no_room (k (reply_of kind value)) [] in
       rw (le-ltb _ _ (h refl)) (one_action (Write reg v) (run_talk (k (reply_of kind value)) [] 0) n.0 n.1)
   step_one (Wait micros) h =
-      let n = no_room (k (reply.Done 0)) (kind ∷ value ∷ []) in
-      one_action (Wait micros) (run_talk (k (reply.Done 0)) (kind ∷ value ∷ []) 0) n.0 n.1
+      let n = no_room (k (Ok 0)) (kind ∷ value ∷ []) in
+      one_action (Wait micros) (run_talk (k (Ok 0)) (kind ∷ value ∷ []) 0) n.0 n.1
 
   pub step_is_run : {a : Action} → c.talk ≡ ask a k → (uses a ≡ 2 → kind ≤ 1) → length t - at ≡ 3
       → (step_talk c kind value).to ≡ left (run_into c (kind ∷ value ∷ []) t at 0)

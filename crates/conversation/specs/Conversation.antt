@@ -1,7 +1,7 @@
 -- A conversation: what it says from here on, and its counts
-use Rattle.std.specs.Prelude.{ℕ, ◌+◌, ◌%◌, ◌^◌, Bool, false, List, [], ◌∷◌, ◌++◌, length, drop, replicate, ◌==◌, nat_lt}
+use Rattle.hardware.specs.Talk.{Talk, ask, end, Res, pick}
+use Rattle.std.specs.Prelude.{ℕ, ◌+◌, ◌%◌, ◌^◌, Bool, false, List, [], ◌∷◌, ◌++◌, length, drop, replicate, ◌==◌, nat_lt, Err, Ok}
 use Rattle.hardware.specs.Bound.{waited}
-use Rattle.hardware.specs.Talk.{Talk, ask, end, Res, ok, err, pick}
 use Rattle.hardware.specs.Refusal.{refusal}
 use Rattle.hardware.specs.declared.Action.{Action}
 use Rattle.hardware.specs.declared.Port.{Port}
@@ -42,8 +42,8 @@ padded ws = ws ++ drop (length ws) (replicate 16 0)
 
 -- a call that is turned away is a conversation that has ended, with its error
 abbrev pub started : Talk Out → Res (Unit {0}) → Talk Out
-started t (err e) = end (err e, [])
-started t (ok u) = t
+started t (Err e) = end (Err e, [])
+started t (Ok u) = t
 
 -- `begin`: 20 to 23, or the reference's operation
 abbrev pub begun : Port → Operation → List ℕ → Conv
@@ -85,12 +85,12 @@ step_talk c kind value = step_on c.talk c kind value
 
 -- a block's words go to a lent block of the same length; 23 for another, which is left as it was
 abbrev pub given : List ℕ → List ℕ → Res (Unit {0}) × List ℕ
-given ws block = pick (length block == length ws) (ok tt, ws) (err Block, block)
+given ws block = pick (length block == length ws) (Ok tt, ws) (Err Block, block)
 
 -- what an ended conversation hands back; one that still runs has nothing to hand back
 abbrev pub handed_back : Talk Out → List ℕ → Res (Unit {0}) × List ℕ
 handed_back (end r) block = given r.1 block
-handed_back (ask a k) block = (err Block, block)
+handed_back (ask a k) block = (Err Block, block)
 
 -- what a poll that ended well leaves in its Watch
 abbrev pub left_by : Value → Left → Left
@@ -109,8 +109,8 @@ left_by (valuev.Poll seen forced reforced) own = record { forced = forced; refor
 
 -- anything else leaves it as it was
 abbrev pub left_of : Talk Out → Left → Left
-left_of (end (ok v, ws)) own = left_by v own
-left_of (end (err e, ws)) own = own
+left_of (end (Ok v, ws)) own = left_by v own
+left_of (end (Err e, ws)) own = own
 left_of (ask a k) own = own
 
 abbrev pub own_of : Watch → Left

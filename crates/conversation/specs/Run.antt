@@ -1,10 +1,10 @@
 -- A run over a script of replies, into a transcript
+use Rattle.hardware.specs.Talk.{Talk, ask, end, pick, Reply}
 use Rattle.std.specs.Prelude.{ℕ, ◌-◌, Bool, true, false, List, [], ◌∷◌, ◌++◌, length, drop, nat_lt}
-use Rattle.hardware.specs.Talk.{Talk, ask, end, pick}
 use Rattle.hardware.specs.declared.Action.{Action}
-use Rattle.hardware.specs.declared.Reply.{Reply}
 use Rattle.hardware.specs.declared.Port.{Port}
 use Rattle.drive.specs.Act.{uses, reply_for}
+use Rattle.drive.specs.declared.Host.{Host}
 use Rattle.drive.specs.Moves.{Tape, on_tape, tape}
 use Rattle.conversation.specs.Conversation.{Conv, conv_of}
 use Rattle.started.specs.Operation.{Out, told}
@@ -73,13 +73,13 @@ shown_of r t =
       tape = tape_of (conv_of r.to) t r.at r.used;
     }
 
-abbrev pub reached_of : Port → Reached → List ℕ → List ℕ → Shown
-reached_of p r b t =
+abbrev pub reached_of : Port → Reached → Host → List ℕ → List ℕ → Shown
+reached_of p r h b t =
     record {
       stop = r.stop;
       port = p;
-      talk = told p r.ran.place b;
-      tape = tape r.ran.host t;
+      talk = told p r.place b;
+      tape = tape h t;
     }
 
 -- a talk's run, from a tape on: over what is left of the script, with the room that is left

@@ -1,26 +1,27 @@
 // A conversation by value: begin, and one step.
-ghost use Rattle.std.specs.Prelude.{◌≡◌, ◌≤◌, [], ◌∷◌, length, take};
-ghost use Rattle.hardware.specs.Told.{unit_of};
-ghost use Rattle.hardware.specs.Talk.{end, err};
+ghost use Rattle.std.specs.Prelude.{◌≡◌, ◌≤◌, [], ◌∷◌, length, take, Err};
+ghost use Rattle.hardware.specs.Talk.{end};
 ghost use Rattle.drive.specs.Act.{reply_for};
 ghost use Rattle.conversation.specs.Conversation.{conv_of, gone, opening, padded, begun, number, refuses, stepped_of, step_talk, given, handed_back, left_by, left_of, own_of};
 ghost use Rattle.start.specs.First.{told_first};
 ghost use Rattle.started.specs.Operation.{resume_op, told};
 
-use answers::{Answer, Value};
+use answers::Value;
 use drive::{reply_of, uses_of, waited_of};
-use hardware::{Action, Error, Port, Reply, Unit};
-use operations::After;
+use hardware::{Action, Error, Port, Reply, Step};
+use operations::{After, Ended};
+use run_access::lent::Lent;
 use start::operation::Operation;
 use start::start::{First, start};
-use started::operation::{Op, Place};
+use started::operation::Op;
 use watch::store::{Left, Watch};
 
 // The whole state of a conversation.
 #[derive(Clone, Copy)]
 pub struct Conversation {
     pub port: Port,
-    pub place: Place,
+    pub place: Step<Action, Op, Ended>,
+    // in fixed memory; how many of its words are an answer's stands in `place`
     pub block: [u32; 16],
     pub actions: u64,
     pub micros: u64,
@@ -64,31 +65,23 @@ fn copied(block: &[u32]) -> [u32; 16]
     ensures { result ≡ padded block.now }
 {
     let mut b = [0u32; 16];
-    let mut i = 0;
-    while i < block.len() {
-        b[i] = block[i];
-        i += 1;
-    }
+    b[..block.len()].copy_from_slice(block);
     b
 }
 
 // A block's words into a lent one of the same length.
-fn give(words: &[u32], block: &mut [u32]) -> Unit
-    ensures { (unit_of result, block.new) ≡ given words.now block.old }
+fn give(words: &[u32], block: &mut [u32]) -> Result<(), Error>
+    ensures { (result, block.new) ≡ given words.now block.old }
 {
     if block.len() != words.len() {
-        return Unit::Err(Error::Block);
+        return Err(Error::Block);
     }
-    let mut i = 0;
-    while i < words.len() {
-        block[i] = words[i];
-        i += 1;
-    }
-    Unit::Ok
+    block.copy_from_slice(words);
+    Ok(())
 }
 
-fn give_first(own: &[u32], words: usize, block: &mut [u32]) -> Unit
-    ensures { (unit_of result, block.new) ≡ given (take words own.now) block.old }
+fn give_first(own: &[u32], words: usize, block: &mut [u32]) -> Result<(), Error>
+    ensures { (result, block.new) ≡ given (take words own.now) block.old }
 {
     if words > own.len() {
         return give(own, block);
@@ -97,7 +90,7 @@ fn give_first(own: &[u32], words: usize, block: &mut [u32]) -> Unit
 }
 
 // The place of an operation's first step.
-fn placed(port: Port, block: &mut [u32; 16], first: First) -> Place
+fn placed(port: Port, block: &mut [u32; 16], first: First) -> Step<Action, Op, Ended>
     ensures { told port result block.new ≡ told_first port block.old first }
 {
     match first {
@@ -106,7 +99,7 @@ fn placed(port: Port, block: &mut [u32; 16], first: First) -> Place
     }
 }
 
-// Whether an action does not take a reply of this kind. A wait takes any.
+// Whether an action does not take a reply of this kind, a number as C has it. A wait takes any.
 fn is_refused(a: Action, kind: u32) -> bool
     ensures { refuses a kind ≡ result }
 {
@@ -118,7 +111,7 @@ fn reply_to(a: Action, kind: u32, value: u32) -> Reply
     ensures { reply_for a (kind ∷ value ∷ []) ≡ result }
 {
     if uses_of(a) == 0 {
-        Reply::Done(0)
+        Ok(0)
     } else {
         reply_of(kind, value)
     }
@@ -129,37 +122,27 @@ fn left_by(value: Value, own: Left) -> Left
     ensures { left_by value own ≡ result }
 {
     match value {
-        Value::Nothing => own,
-        Value::Flag(_) => own,
-        Value::Word(_) => own,
-        Value::Link(_) => own,
-        Value::Command {
-            status: _,
-            words: _,
-        } => own,
-        Value::Activity(_) => own,
-        Value::Probe(_) => own,
-        Value::Scan(_) => own,
-        Value::Abilities(_) => own,
-        Value::X552(_) => own,
-        Value::X553(_) => own,
         Value::Poll {
             copper: _,
             forced,
             reforced,
         } => Left { forced, reforced },
+        _ => own,
     }
 }
 
 impl Conversation {
     // A conversation that has ended from the start, for a call that is turned away.
     fn refused(port: Port, e: Error) -> Conversation
-        ensures { conv_of result ≡ opening port (end (err e, [])) }
+        ensures { conv_of result ≡ opening port (end (Err e, [])) }
     {
         let block = [0u32; 16];
         Conversation {
             port,
-            place: Place::Ended(Answer::Err(e), 0),
+            place: Step::Done(Ended {
+                answer: Err(e),
+                words: 0,
+            }),
             block,
             actions: 0,
             micros: 0,
@@ -171,8 +154,8 @@ impl Conversation {
         ensures { conv_of result ≡ begun port what block.now }
     {
         match port.refusal(what.phy(), what.device(), block.len()) {
-            Unit::Err(e) => Conversation::refused(port, e),
-            Unit::Ok => {
+            Err(e) => Conversation::refused(port, e),
+            Ok(()) => {
                 let mut words = copied(block);
                 let first = start(what, port, &mut words, block.len());
                 let place = placed(port, &mut words, first);
@@ -209,11 +192,11 @@ impl Conversation {
     {
         let place = self.place;
         match place {
-            Place::Ended(_, _) => Stepped {
+            Step::Done(_) => Stepped {
                 stop: Stop::AfterEnd,
                 to: self,
             },
-            Place::Asks(a, op) => {
+            Step::Ask(a, op) => {
                 if is_refused(a, kind) {
                     Stepped {
                         stop: Stop::BadReply,
@@ -231,15 +214,15 @@ impl Conversation {
 
     // Hands the words of a `command` that has ended, well or not, back to the block that they came from. A block of another
     // length is 23 and stays as it was, and so is any block before the end.
-    pub fn hand_back(self, block: &mut [u32]) -> Unit
-        ensures { (unit_of result, block.new) ≡ handed_back (conv_of self).talk block.old }
+    pub fn hand_back(self, block: &mut [u32]) -> Result<(), Error>
+        ensures { (result, block.new) ≡ handed_back (conv_of self).talk block.old }
     {
         let place = self.place;
         match place {
-            Place::Asks(_, _) => Unit::Err(Error::Block),
-            Place::Ended(_, words) => {
+            Step::Ask(_, _) => Err(Error::Block),
+            Step::Done(ended) => {
                 let own = self.block;
-                give_first(&own, words, block)
+                give_first(&own, ended.words, block)
             }
         }
     }
@@ -255,10 +238,10 @@ impl Conversation {
         };
         let place = self.place;
         match place {
-            Place::Asks(_, _) => own,
-            Place::Ended(answer, _) => match answer {
-                Answer::Err(_) => own,
-                Answer::Ok(value) => left_by(value, own),
+            Step::Ask(_, _) => own,
+            Step::Done(ended) => match ended.answer {
+                Err(_) => own,
+                Ok(value) => left_by(value, own),
             },
         }
     }

@@ -1,15 +1,17 @@
 // A run over a script of replies, into a transcript.
 ghost use Rattle.std.specs.Prelude.{◌≡◌, ◌+◌, ◌≤◌, length};
-ghost use Rattle.drive.specs.Act.{uses};
 ghost use Rattle.drive.specs.Moves.{tape, Moves};
 ghost use Rattle.started.specs.Operation.{told};
 ghost use Rattle.conversation.specs.Conversation.{conv_of};
 ghost use Rattle.conversation.specs.Run.{shown_of, reached_of, run_on, run_into, bad, run_all};
 
 use crate::conversation::{Conversation, Stop};
-use drive::{Host, reply_at, uses_of, waited_of, write_down};
-use hardware::{Action, Port};
-use started::operation::{Op, OpRan, Place};
+use drive::{Host, act};
+use hardware::{Action, Port, Step};
+use operations::Ended;
+use run_access::lent;
+use run_access::lent::Lent;
+use started::operation::Op;
 
 // What a run answers: why it stopped, the conversation, the next write place in the transcript, and how many reply words
 // it used. A caller stopped by 26 or 27 goes on from these.
@@ -21,80 +23,67 @@ pub struct Ran {
     pub used: usize,
 }
 
-// Where a run has stopped.
+// Where a run has stopped, and why.
 #[derive(Clone, Copy)]
 struct Reached {
     stop: Stop,
-    ran: OpRan,
+    place: Step<Action, Op, Ended>,
 }
 
-// One action by itself.
-fn single(
-    op: Op,
-    a: Action,
+// As far as accesses go by themselves, one after the other.
+fn ahead(
+    place: Step<Action, Op, Ended>,
     port: Port,
     block: &mut [u32; 16],
-    h: Host,
+    h: &mut Host,
     replies: &[u32],
     t: &mut [u32],
-) -> OpRan
-    requires at_in_bounds { h.at + 3 ≤ length t.old }
-    requires a_in_bounds { h.used + uses a ≤ length replies.now }
-    ensures moves { Moves replies.now (told port (Place.Asks a op) block.old) (tape h t.old) (told port result.place block.new) (tape result.host t.new) }
-    ensures at_value { result.host.at ≡ h.at + 3 }
+) -> Step<Action, Op, Ended>
+    ensures { Moves replies.now (told port place block.old) (tape h.old t.old) (told port result block.new) (tape h.new t.new) }
 {
-    let reply = reply_at(a, replies, h.used);
-    write_down(t, h.at, a);
-    let place = op.next(port, block, reply);
-    let host = Host {
-        used: h.used + uses_of(a),
-        at: h.at + 3,
-        actions: std::num::wrapping_add_u64(h.actions, 1),
-        micros: std::num::wrapping_add_u64(h.micros, waited_of(a)),
-    };
-    OpRan { host, place }
+    match place {
+        Step::Done(_) => place,
+        Step::Ask(a, op) => lent::run(op, a, port, block, h, replies, t),
+    }
 }
 
-// The run's loop: as far as an access goes by itself, then one action.
+// The run's loop: as far as accesses go by themselves, then one action, from where the last turn came.
 fn run_from(
-    from: OpRan,
+    from: Step<Action, Op, Ended>,
     port: Port,
     block: &mut [u32; 16],
+    h: &mut Host,
     replies: &[u32],
     t: &mut [u32],
 ) -> Reached
-    requires at_in_bounds { from.host.at ≤ length t.old }
-    requires used_in_bounds { from.host.used ≤ length replies.now }
-    ensures t_after { reached_of port result block.new t.new ≡ run_on port (told port from.place block.old) replies.now (tape from.host t.old) }
-    ensures at_in_bounds_2 { result.ran.host.at ≤ length t.old }
+    requires at_in_bounds { h.old.at ≤ length t.old }
+    requires used_in_bounds { h.old.used ≤ length replies.now }
+    ensures t_after { reached_of port result h.new block.new t.new ≡ run_on port (told port from block.old) replies.now (tape h.old t.old) }
+    ensures at_in_bounds_2 { h.new.at ≤ length t.old }
 {
-    let mut ran = from;
+    let mut at = from;
     loop {
-        ran = ran.ahead(port, block, replies, t);
-        let h = ran.host;
-        let place = ran.place;
+        let place = ahead(at, port, block, h, replies, t);
         match place {
-            Place::Ended(_, _) => {
+            Step::Done(_) => {
                 return Reached {
                     stop: Stop::Done,
-                    ran,
+                    place,
                 };
             }
-            Place::Asks(a, op) => {
-                if t.len() - h.at < 3 {
-                    return Reached {
-                        stop: Stop::NoRoom,
-                        ran,
-                    };
+            Step::Ask(a, op) => match act(h, a, replies, t) {
+                Some(reply) => {
+                    at = op.next(port, block, reply);
                 }
-                if replies.len() - h.used < uses_of(a) {
-                    return Reached {
-                        stop: Stop::NoReply,
-                        ran,
+                None => {
+                    let stop = if t.len() - h.at < 3 {
+                        Stop::NoRoom
+                    } else {
+                        Stop::NoReply
                     };
+                    return Reached { stop, place };
                 }
-                ran = single(op, a, port, block, h, replies, t);
-            }
+            },
         }
     }
 }
@@ -107,28 +96,24 @@ fn run_on(c: Conversation, replies: &[u32], t: &mut [u32]) -> Ran
     let port = c.port;
     let place = c.place;
     let mut block = c.block;
-    let host = Host {
+    let mut h = Host {
         used: 0,
         at: 0,
         actions: c.actions,
         micros: c.micros,
     };
-    let r = run_from(OpRan { host, place }, port, &mut block, replies, t);
-    let stop = r.stop;
-    let ran = r.ran;
-    let end = ran.host;
-    let place = ran.place;
+    let reached = run_from(place, port, &mut block, &mut h, replies, t);
     Ran {
-        stop,
+        stop: reached.stop,
         to: Conversation {
             port,
-            place,
+            place: reached.place,
             block,
-            actions: end.actions,
-            micros: end.micros,
+            actions: h.actions,
+            micros: h.micros,
         },
-        at: end.at,
-        used: end.used,
+        at: h.at,
+        used: h.used,
     }
 }
 
@@ -136,15 +121,13 @@ fn run_on(c: Conversation, replies: &[u32], t: &mut [u32]) -> Ran
 fn is_bad(replies: &[u32]) -> bool
     ensures { bad replies.now ≡ result }
 {
-    let mut i: usize = 0;
-    while i < replies.len() {
-        if replies.len() - i < 2 {
+    for pair in replies.chunks(2) {
+        if pair.len() < 2 {
             return true;
         }
-        if replies[i] > 1 {
+        if pair[0] > 1 {
             return true;
         }
-        i += 2;
     }
     false
 }
@@ -154,7 +137,7 @@ pub fn run(c: Conversation, replies: &[u32], transcript: &mut [u32], at: usize) 
     ensures { shown_of result transcript.new ≡ run_all (conv_of c) replies.now transcript.old at }
 {
     let place = c.place;
-    if let Place::Ended(_, _) = place {
+    if let Step::Done(_) = place {
         return Ran {
             stop: Stop::AfterEnd,
             to: c,

@@ -1,16 +1,13 @@
 -- What goes on
-use Rattle.std.proofs.Common.{◌≡◌, ℕ, ◌+◌, ◌-◌, ◌%◌, ◌^◌, ◌<◌, ◌≤◌, List, length, drop, sym, refl, ap, ◌∙◌, subst, arith}
+use Rattle.std.proofs.Common.{◌≡◌, ℕ, ◌+◌, ◌-◌, ◌%◌, ◌^◌, ◌<◌, ◌≤◌, List, length, drop, sym, refl, subst, arith}
 use lib.Seq.{sets, length-sets}
 use Rattle.hardware.specs.Bound.{waited}
-use Rattle.hardware.specs.Talk.{Talk, ask, and_then}
+use Rattle.hardware.specs.Talk.{Talk, Reply, ask, and_then}
 use Rattle.hardware.specs.declared.Action.{Action}
 use Rattle.hardware.specs.declared.Action.TheVariants.{Read, Write, Wait}
-use Rattle.hardware.specs.declared.Reply.{Reply}
-use Rattle.drive.specs.declared.Host.{Host}
-use Rattle.drive.specs.declared.Acted.{Acted}
-use Rattle.drive.specs.declared.Acted.TheVariants as acted
+use Rattle.std.specs.Prelude.{Option, Some, None}
 use Rattle.drive.specs.Act.{uses, words, reply_for}
-use Rattle.drive.specs.Moves.{Tape, on_tape, tape, Moves, stays, goes, Acts, ActsBy}
+use Rattle.drive.specs.Moves.{Tape, on_tape, Moves, stays, goes, Acts, ActsBy}
 
 pub uses_two : (a : Action) → (uses a ≡ 0 → ⊥) → uses a ≡ 2
 uses_two (Read reg) h = refl
@@ -34,31 +31,21 @@ pub put_down : (t : Tape) (a : Action) {need wait n m : ℕ} {words' : List ℕ}
 put_down t a eu ew en ewait em = rw (ew, en, em, ← eu, ← ewait)
 
 -- what `act` gave
-module _ {rs : List ℕ} {a : Action} {h : Host} {t t' : List ℕ} {r : Acted} where
-  by : {s : Acted} → Acts a rs (tape h t) r t' → r ≡ s → ActsBy a rs (tape h t) s t'
-  by e c = subst (λ (x : Acted). ActsBy a rs (tape h t) x t') c e.what
-
-  pub act_less : {h' : Host} {reply : Reply} → Acts a rs (tape h t) r t' → r ≡ acted.Is h' reply → length t' - h'.at < length t - h.at
-  act_less {h'} {reply} e c =
-      let e' : ActsBy a rs (tape h t) (acted.Is h' reply) t' = by e c in
-      let at : h'.at ≡ h.at + 3 = ap (λ (x : Tape). x.at) e'.3 in
-      let l : length t' ≡ length t = ap (λ (x : Tape). length x.transcript) e'.3 ∙ length-sets t h.at (words a) in
-      let room : 3 ≤ length t - h.at = e'.0 in
-      omega (arith, at, l, room)
+module _ {rs : List ℕ} {a : Action} {t t' : Tape} {r : Option Reply} where
+  pub by : {s : Option Reply} → Acts a rs t r t' → r ≡ s → ActsBy a rs t s t'
+  by e c = subst (λ (x : Option Reply). ActsBy a rs t x t') c e.what
 
   -- in a loop whose talk has come as far as the action
   module _ {A : Type 0} {m₀ : Talk A} {t₀ : Tape} where
-    pub act_short : {m : Talk A} → Acts a rs (tape h t) r t' → r ≡ acted.Short → Moves rs m₀ t₀ m (tape h t) → Moves rs m₀ t₀ m (tape h t')
-    act_short {m} e c p =
-        let e' : t' ≡ t = by e c in
-        subst (λ (x : List ℕ). Moves rs m₀ t₀ m (tape h x)) (sym e') p
+    pub act_short : {m : Talk A} → Acts a rs t r t' → r ≡ None → Moves rs m₀ t₀ m t → Moves rs m₀ t₀ m t'
+    act_short {m} e c p = subst (λ (x : Tape). Moves rs m₀ t₀ m x) (sym (by e c).0) p
 
-    pub act_done : {k : Reply → Talk A} {h' : Host} {reply : Reply} → Acts a rs (tape h t) r t' → r ≡ acted.Is h' reply
-        → Moves rs m₀ t₀ (ask a k) (tape h t) → Moves rs m₀ t₀ (k reply) (tape h' t')
-    act_done {k} {h'} {reply} e c p =
-        let e' : ActsBy a rs (tape h t) (acted.Is h' reply) t' = by e c in
-        let q : Moves rs m₀ t₀ (k (reply_for a (drop h.used rs))) (on_tape (tape h t) a) = then p (goes e'.0 e'.1 stays) in
-        subst (λ (x : Tape). Moves rs m₀ t₀ (k reply) x) (sym e'.3) (subst (λ (x : Reply). Moves rs m₀ t₀ (k x) (on_tape (tape h t) a)) e'.2 q)
+    pub act_done : {k : Reply → Talk A} {reply : Reply} → Acts a rs t r t' → r ≡ Some reply
+        → Moves rs m₀ t₀ (ask a k) t → Moves rs m₀ t₀ (k reply) t'
+    act_done {k} {reply} e c p =
+        let e' : ActsBy a rs t (Some reply) t' = by e c in
+        let q : Moves rs m₀ t₀ (k (reply_for a (drop t.used rs))) (on_tape t a) = then p (goes e'.0 e'.1 stays) in
+        subst (λ (x : Tape). Moves rs m₀ t₀ (k reply) x) (sym e'.3) (subst (λ (x : Reply). Moves rs m₀ t₀ (k x) (on_tape t a)) e'.2 q)
 
 -- the same, said otherwise
 pub told_as : {A : Type 0} {rs : List ℕ} {m₀ m n : Talk A} {t₀ t : Tape} → m ≡ n → Moves rs m₀ t₀ m t → Moves rs m₀ t₀ n t

@@ -1,11 +1,9 @@
 -- What an action is to a script and to a transcript
-use Rattle.std.specs.Prelude.{ℕ, ◌+◌, List, [], ◌∷◌, ◌++◌, ◌==◌, slice_index}
+use Rattle.std.specs.Prelude.{ℕ, ◌+◌, List, [], ◌∷◌, ◌++◌, ◌==◌, slice_index, Ok, Err}
 use Rattle.hardware.specs.Bound.{waited}
-use Rattle.hardware.specs.Talk.{pick}
+use Rattle.hardware.specs.Talk.{pick, Reply}
 use Rattle.hardware.specs.declared.Action.{Action}
 use Rattle.hardware.specs.declared.Action.TheVariants.{Read, Write, Wait}
-use Rattle.hardware.specs.declared.Reply.{Reply}
-use Rattle.hardware.specs.declared.Reply.TheVariants.{Done, Failed}
 
 -- the reply words that it uses: none for a wait, else two
 abbrev pub uses : Action → ℕ
@@ -34,11 +32,11 @@ words a = kind a ∷ register a ∷ value a ∷ []
 
 -- a reply's two words: kind 0 is done, else failed
 abbrev pub reply_of : ℕ → ℕ → Reply
-reply_of kind value = pick (kind == 0) (Done value) (Failed value)
+reply_of kind value = pick (kind == 0) (Ok value) (Err (record { 0 = value }))
 
--- what an action is answered at the head of a script: a wait has `Done 0`, whatever stands there
+-- what an action is answered at the head of a script: a wait has `Ok 0`, whatever stands there
 abbrev pub reply_for : Action → List ℕ → Reply
-reply_for a rs = pick (uses a == 0) (Done 0) (reply_of (slice_index rs 0) (slice_index rs 1))
+reply_for a rs = pick (uses a == 0) (Ok 0) (reply_of (slice_index rs 0) (slice_index rs 1))
 
 -- the same of a list of actions, in order: reply words used, microseconds waited, words in the transcript
 abbrev pub used_by : List Action → ℕ

@@ -1,14 +1,11 @@
 -- A talk that goes on over a script and a tape
-use Rattle.std.specs.Prelude.{◌≡◌, ℕ, ◌+◌, ◌-◌, ◌%◌, ◌^◌, ◌≤◌, List, length, drop}
+use Rattle.std.specs.Prelude.{◌≡◌, ℕ, ◌+◌, ◌-◌, ◌%◌, ◌^◌, ◌<◌, ◌≤◌, List, length, drop, Option, Some, None}
 use Rattle.std.proofs.lemmas.List.Edits.{sets}
 use Rattle.hardware.specs.Bound.{waited}
-use Rattle.hardware.specs.Talk.{Talk, ask}
+use Rattle.hardware.specs.Talk.{Talk, Reply, ask}
 use Rattle.hardware.specs.declared.Action.{Action}
-use Rattle.hardware.specs.declared.Reply.{Reply}
 use Rattle.drive.specs.Act.{uses, words, reply_for}
 use Rattle.drive.specs.declared.Host.{Host}
-use Rattle.drive.specs.declared.Acted.{Acted}
-use Rattle.drive.specs.declared.Acted.TheVariants as acted
 
 -- what is left behind: the counts, the transcript, its next place, and the reply words used
 pub record Tape : Type 0 where
@@ -39,11 +36,11 @@ pub data Moves {A : Type 0} (rs : List ℕ) : Talk A → Tape → Talk A → Tap
       → Moves rs (k (reply_for a (drop t.used rs))) (on_tape t a) m t'
       → Moves rs (ask a k) t m t'
 
--- one action is done, or nothing is
-abbrev pub ActsBy : Action → List ℕ → Tape → Acted → List ℕ → Type 0
-ActsBy a rs t acted.Short t' = t' ≡ t.transcript
-ActsBy a rs t (acted.Is h reply) t' =
-    (3 ≤ length t.transcript - t.at) × (uses a ≤ length rs - t.used) × (reply_for a (drop t.used rs) ≡ reply) × (tape h t' ≡ on_tape t a)
+-- one action is done; or nothing is, since there is no room or no reply
+abbrev pub ActsBy : Action → List ℕ → Tape → Option Reply → Tape → Type 0
+ActsBy a rs t None t' = (t' ≡ t) × (t.used ≤ length rs → 3 ≤ length t.transcript - t.at → length rs - t.used < uses a)
+ActsBy a rs t (Some reply) t' =
+    (3 ≤ length t.transcript - t.at) × (uses a ≤ length rs - t.used) × (reply_for a (drop t.used rs) ≡ reply) × (t' ≡ on_tape t a)
 
-pub record Acts (a : Action) (rs : List ℕ) (t : Tape) (r : Acted) (t' : List ℕ) : Type 0 where
+pub record Acts (a : Action) (rs : List ℕ) (t : Tape) (r : Option Reply) (t' : Tape) : Type 0 where
   pub what : ActsBy a rs t r t'

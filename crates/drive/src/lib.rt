@@ -1,14 +1,16 @@
 // A script and a transcript as far as they are used, and one action done on them.
 #![tactic(auto)]
 
+pub mod machine;
+
 ghost use Rattle.std.specs.Prelude.{◌≡◌, ◌+◌, ◌≤◌, length, drop};
 ghost use Rattle.std.proofs.lemmas.List.Edits.{sets};
 ghost use Rattle.hardware.specs.Bound.{waited};
 ghost use Rattle.drive.specs.Act.{uses, kind, register, value, words, reply_of, reply_for};
 ghost use Rattle.drive.specs.Moves.{tape, Acts};
 
-use hardware::{Action, Reply};
-use script::{Pair, read_pair};
+use hardware::{Action, Failure, Reply};
+use script::read_pair;
 
 #[derive(Clone, Copy)]
 pub struct Host {
@@ -18,21 +20,13 @@ pub struct Host {
     pub micros: u64,
 }
 
-// Short: no room, or no reply
-#[derive(Clone, Copy)]
-pub enum Acted {
-    Is(Host, Reply),
-    Short,
-}
-
 // Reply words that it uses in a script: a wait none, a read or a write two.
 pub fn uses_of(a: Action) -> usize
     ensures { uses a ≡ result }
 {
     match a {
-        Action::Read(_) => 2,
-        Action::Write(_, _) => 2,
         Action::Wait(_) => 0,
+        _ => 2,
     }
 }
 
@@ -40,12 +34,12 @@ pub fn waited_of(a: Action) -> u64
     ensures { waited a ≡ result }
 {
     match a {
-        Action::Read(_) => 0,
-        Action::Write(_, _) => 0,
         Action::Wait(micros) => micros as u64,
+        _ => 0,
     }
 }
 
+// The kind, as C and the tracer have it.
 pub fn kind_of(a: Action) -> u32
     ensures { result ≡ kind a }
 {
@@ -60,8 +54,7 @@ pub fn register_of(a: Action) -> u32
     ensures { result ≡ register a }
 {
     match a {
-        Action::Read(reg) => reg,
-        Action::Write(reg, _) => reg,
+        Action::Read(reg) | Action::Write(reg, _) => reg,
         Action::Wait(_) => 0,
     }
 }
@@ -76,18 +69,19 @@ pub fn value_of(a: Action) -> u32
     }
 }
 
+// By the two words of C and of the tracer, where the kind is a number.
 pub fn reply_of(kind: u32, value: u32) -> Reply
     ensures { reply_of kind value ≡ result }
 {
     if kind == 0 {
-        Reply::Done(value)
+        Ok(value)
     } else {
-        Reply::Failed(value)
+        Err(Failure(value))
     }
 }
 
 // An action's three words, at a place of the transcript.
-pub fn write_down(t: &mut [u32], at: usize, a: Action)
+fn write_down(t: &mut [u32], at: usize, a: Action)
     requires { at + 3 ≤ length t.old }
     ensures { t.new ≡ sets t.old at (words a) }
 {
@@ -98,46 +92,47 @@ pub fn write_down(t: &mut [u32], at: usize, a: Action)
 
 // What an action is answered at a place of the script.
 #[tactic(auto, using(script::proofs::Laws::are, script::proofs::Laws::has_none, crate::proofs::Laws::uses_two))]
-pub fn reply_at(a: Action, replies: &[u32], used: usize) -> Reply
+fn reply_at(a: Action, replies: &[u32], used: usize) -> Reply
     requires { used + uses a ≤ length replies.now }
     ensures { reply_for a (drop used replies.now) ≡ result }
 {
     if uses_of(a) == 0 {
-        return Reply::Done(0);
+        return Ok(0);
     }
     match read_pair(replies, used) {
-        Pair::Is(kind, value) => reply_of(kind, value),
+        Some((kind, value)) => reply_of(kind, value),
         // excluded above
-        Pair::Nothing => Reply::Done(0),
+        None => Ok(0),
     }
 }
 
+// Nothing is done where there is no room, or no reply.
 #[tactic(auto, using(crate::proofs::Laws::put_down))]
-pub fn act(h: Host, a: Action, replies: &[u32], t: &mut [u32]) -> Acted
-    ensures { Acts a replies.now (tape h t.old) result t.new }
+pub fn act(h: &mut Host, a: Action, replies: &[u32], t: &mut [u32]) -> Option<Reply>
+    ensures { Acts a replies.now (tape h.old t.old) result (tape h.new t.new) }
 {
     let at = h.at;
     let used = h.used;
     if t.len() < at {
-        return Acted::Short;
+        return None;
     }
     if t.len() - at < 3 {
-        return Acted::Short;
+        return None;
     }
     if replies.len() < used {
-        return Acted::Short;
+        return None;
     }
     let need = uses_of(a);
     if replies.len() - used < need {
-        return Acted::Short;
+        return None;
     }
     let reply = reply_at(a, replies, used);
     write_down(t, at, a);
-    let next = Host {
+    *h = Host {
         used: used + need,
         at: at + 3,
         actions: std::num::wrapping_add_u64(h.actions, 1),
         micros: std::num::wrapping_add_u64(h.micros, waited_of(a)),
     };
-    Acted::Is(next, reply)
+    Some(reply)
 }

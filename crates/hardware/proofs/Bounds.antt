@@ -1,10 +1,11 @@
 -- Bounds on talks: one law for each form of a talk
+use Rattle.std.specs.Prelude.{Ok, Err}
 use Prim.Native.Nat.{ℕ, zero, suc, ◌+◌, ◌*◌, ◌≤◌}
 use mathlib.Core.Bool.{Bool, true, false}
 use native.Mathlib.Omega.{arith}
 use native.Mathlib.Nat.{suc-mul}
 use Rattle.hardware.specs.Bound.{Within, at_end, at_ask}
-use Rattle.hardware.specs.Talk.{Talk, Res, ok, err, pick, and_then, or_stop, checked, read, times}
+use Rattle.hardware.specs.Talk.{Talk, Res, pick, and_then, or_stop, checked, read, times}
 use Rattle.hardware.specs.declared.Action.TheVariants as action
 
 pub within_more : {A : Type 0} {t : Talk A} {n m n' m' : ℕ} → n ≤ n' → m ≤ m' → Within t n m → Within t n' m'
@@ -18,8 +19,8 @@ within_then {n = x} {m = y} {n' = c} {m' = d} (at_ask {a = a} {n = e} {m = f} p 
     at_ask {a = a} {n = e + c} {m = f + d} {n' = x + c} {m' = y + d} (omega arith) (omega arith) (λ r. within_then (w r) h)
 
 pub within_stop : {A B : Type 0} {k : A → Talk (Res B)} {n m : ℕ} (r : Res A) → ((a : A) → Within (k a) n m) → Within (or_stop k r) n m
-within_stop (ok a) h = h a
-within_stop (err e) h = at_end
+within_stop (Ok a) h = h a
+within_stop (Err e) h = at_end
 
 pub within_pick : {A : Type 0} (b : Bool) {s t : Talk A} {n m : ℕ} → Within s n m → Within t n m → Within (pick b s t) n m
 within_pick true v w = v

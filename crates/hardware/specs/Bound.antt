@@ -1,9 +1,8 @@
 -- That a talk ends, and how long it is at the most
 use Rattle.std.specs.Prelude.{ℕ, zero, suc, ◌+◌, ◌≤◌, ◌≡◌}
-use Rattle.hardware.specs.Talk.{Talk, ask, end}
+use Rattle.hardware.specs.Talk.{Talk, ask, end, Reply}
 use Rattle.hardware.specs.declared.Action.{Action}
 use Rattle.hardware.specs.declared.Action.TheVariants.{Read, Write, Wait}
-use Rattle.hardware.specs.declared.Reply.{Reply}
 
 -- the microseconds that an action waits
 abbrev pub waited : Action → ℕ

@@ -1,17 +1,19 @@
 -- Conversations, and hardware.rs's `read`, `write`, `flush` and delays as conversations
-use Rattle.std.specs.Prelude.{ℕ, zero, suc, Bool, true, false, eqb}
+use Rattle.std.specs.Prelude.{ℕ, zero, suc, Bool, true, false, eqb, Result, Ok, Err}
 use Rattle.std.specs.Int.Bits.{bit_and}
 use Rattle.hardware.specs.declared.Action.{Action}
 use Rattle.hardware.specs.declared.Action.TheVariants as action
-use Rattle.hardware.specs.declared.Reply.{Reply}
-use Rattle.hardware.specs.declared.Reply.TheVariants as reply
+use Rattle.hardware.specs.declared.Failure.{Failure}
 use Rattle.hardware.specs.declared.Error.{Error}
 use Rattle.hardware.specs.declared.Error.TheVariants.{Io, Removed}
 
 -- what a Rust function of type `R<A>` gives back
-pub data Res (A : Type 0) : Type 0 where
-  ok : A → Res A
-  err : Error → Res A
+abbrev pub Res : Type 0 → Type 0
+Res A = Result A Error
+
+-- what the host hands back: the value read, or its failure
+abbrev pub Reply : Type 0
+Reply = Result ℕ Failure
 
 -- a conversation has ended with an answer, or asks for an action and goes on from the reply
 pub data Talk (A : Type 0) : Type 0 where
@@ -28,8 +30,8 @@ and_then (end a) k = k a
 and_then (ask a c) k = ask a (λ r. and_then (c r) k)
 
 abbrev pub or_stop : {A B : Type 0} → (A → Talk (Res B)) → Res A → Talk (Res B)
-or_stop k (ok a) = k a
-or_stop k (err e) = end (err e)
+or_stop k (Ok a) = k a
+or_stop k (Err e) = end (Err e)
 
 -- the Rust's `?`
 infixl 20 ◌>>=◌
@@ -42,13 +44,13 @@ s >> t = s >>= (λ _. t)
 
 -- a call whose error is kept for later, as in `let taken = write(..);`
 abbrev pub attempt : {A : Type 0} → Talk (Res A) → Talk (Res (Res A))
-attempt t = and_then t (λ r. end (ok r))
+attempt t = and_then t (λ r. end (Ok r))
 
 abbrev pub return : {A : Type 0} → A → Call A
-return a = end (ok a)
+return a = end (Ok a)
 
 abbrev pub fail : {A : Type 0} → Error → Call A
-fail e = end (err e)
+fail e = end (Err e)
 
 -- `if`
 abbrev pub pick : {A : Type 0} → Bool → A → A → A
@@ -65,16 +67,16 @@ abbrev pub is_clear : ℕ → ℕ → Bool
 is_clear value bits = eqb (bit_and value bits) 0
 
 abbrev pub raw : Reply → Res ℕ
-raw (reply.Failed code) = err (Io code)
-raw (reply.Done value) = ok value
+raw (Err code) = Err (Io code.0)
+raw (Ok value) = Ok value
 
 abbrev pub checked : Reply → Res ℕ
-checked (reply.Failed code) = err (Io code)
-checked (reply.Done value) = pick (eqb value 0xffffffff) (err Removed) (ok value)
+checked (Err code) = Err (Io code.0)
+checked (Ok value) = pick (eqb value 0xffffffff) (Err Removed) (Ok value)
 
 abbrev pub done : Reply → Res (Unit {0})
-done (reply.Failed code) = err (Io code)
-done (reply.Done value) = ok tt
+done (Err code) = Err (Io code.0)
+done (Ok value) = Ok tt
 
 -- hardware.rs:113
 abbrev pub read : ℕ → Call ℕ

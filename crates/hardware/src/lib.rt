@@ -6,7 +6,7 @@ ghost use Rattle.std.specs.Prelude.{◌≡◌};
 ghost use Rattle.hardware.specs.Talk.{checked, raw, done};
 ghost use Rattle.hardware.specs.Refusal.{is_fiber, refusal};
 ghost use Rattle.hardware.specs.Regs.{regs};
-ghost use Rattle.hardware.specs.Told.{unit_of, word_of};
+ghost use Rattle.hardware.specs.declared.Error.TheVariants.{Io};
 
 // The two families of document 01.
 #[derive(Clone, Copy)]
@@ -31,12 +31,12 @@ pub enum Action {
     Wait(u32),
 }
 
-// What the host hands back: the value read, or the failure's code.
+// The host's own code of a failure.
 #[derive(Clone, Copy)]
-pub enum Reply {
-    Done(u32),
-    Failed(u32),
-}
+pub struct Failure(pub u32);
+
+// What the host hands back: the value read, or that it failed.
+pub type Reply = Result<u32, Failure>;
 
 // Every cause that ends a conversation with an error: 1 to 9 of document 01's table, which the Rust has, and 20 to 23,
 // which `begin` adds. specs/Numbers.antt gives each one its number and values.
@@ -79,18 +79,19 @@ pub struct Regs {
     pub sync: u32,
 }
 
-// R<()>
+// A conversation that asks for an action, and the state in which it waits for the reply; or it has ended, with an answer.
 #[derive(Clone, Copy)]
-pub enum Unit {
-    Ok,
-    Err(Error),
+pub enum Step<Q, S, A> {
+    Ask(Q, S),
+    Done(A),
 }
 
-// R<u32>
-#[derive(Clone, Copy)]
-pub enum Word {
-    Ok(u32),
-    Err(Error),
+impl From<Failure> for Error {
+    ghost from_gives = { λ f e. e ≡ Io f.0 };
+
+    fn from(f: Failure) -> Error {
+        Error::Io(f.0)
+    }
 }
 
 impl Port {
@@ -106,10 +107,10 @@ impl Port {
     pub const MMNGC: u32 = 0x42d0;
 }
 
-impl Regs {
-    pub fn of(family: Family) -> Regs
-        ensures { regs family ≡ result }
-    {
+impl From<Family> for Regs {
+    ghost from_gives = { λ family r. regs family ≡ r };
+
+    fn from(family: Family) -> Regs {
         match family {
             Family::X552 => Regs {
                 swsm: 0x10140,
@@ -131,75 +132,55 @@ impl Port {
         let device = self.device;
         match family {
             Family::X552 => device == 0x15ac,
-            Family::X553 => {
-                if device == 0x15c4 {
-                    true
-                } else {
-                    device == 0x15ce
-                }
-            }
+            Family::X553 => device == 0x15c4 || device == 0x15ce,
         }
     }
 
     // What `begin` turns away, in document 01's order: the port, then the operation's PHY and MDIO device address (0 where
     // it has none), then the number of words in the host block.
     #[tactic(auto, unfolding(crate::specs::Refusal::refusal))]
-    pub fn refusal(self, phy: u32, device: u32, words: usize) -> Unit
-        ensures { refusal self phy device words ≡ unit_of result }
+    pub fn refusal(self, phy: u32, device: u32, words: usize) -> Result<(), Error>
+        ensures { refusal self phy device words ≡ result }
     {
         if self.lan > 1 {
-            return Unit::Err(Error::Lan);
+            return Err(Error::Lan);
         }
         if self.is_fiber() {
-            return Unit::Err(Error::Fiber);
+            return Err(Error::Fiber);
         }
-        if phy > 31 {
-            return Unit::Err(Error::Address);
-        }
-        if device > 31 {
-            return Unit::Err(Error::Address);
+        if phy > 31 || device > 31 {
+            return Err(Error::Address);
         }
         if words > 16 {
-            return Unit::Err(Error::Block);
+            return Err(Error::Block);
         }
-        Unit::Ok
+        Ok(())
     }
 }
 
-impl Reply {
-    // `read`: all ones is a device that is gone.
-    pub fn checked(self) -> Word
-        ensures { checked self ≡ word_of result }
-    {
-        match self {
-            Reply::Failed(code) => Word::Err(Error::Io(code)),
-            Reply::Done(value) => {
-                if value == 0xffff_ffff {
-                    Word::Err(Error::Removed)
-                } else {
-                    Word::Ok(value)
-                }
-            }
-        }
+// `read`: all ones is a device that is gone.
+pub fn checked(reply: Reply) -> Result<u32, Error>
+    ensures { checked reply ≡ result }
+{
+    let value = reply?;
+    if value == 0xffff_ffff {
+        Err(Error::Removed)
+    } else {
+        Ok(value)
     }
+}
 
-    // `io.read` by itself: all ones is a value.
-    pub fn raw(self) -> Word
-        ensures { raw self ≡ word_of result }
-    {
-        match self {
-            Reply::Failed(code) => Word::Err(Error::Io(code)),
-            Reply::Done(value) => Word::Ok(value),
-        }
-    }
+// `io.read` by itself: all ones is a value.
+pub fn raw(reply: Reply) -> Result<u32, Error>
+    ensures { raw reply ≡ result }
+{
+    Ok(reply?)
+}
 
-    // `write` and `flush`: only a failure counts.
-    pub fn done(self) -> Unit
-        ensures { done self ≡ unit_of result }
-    {
-        match self {
-            Reply::Failed(code) => Unit::Err(Error::Io(code)),
-            Reply::Done(_) => Unit::Ok,
-        }
-    }
+// `write` and `flush`: only a failure counts.
+pub fn done(reply: Reply) -> Result<(), Error>
+    ensures { done reply ≡ result }
+{
+    reply?;
+    Ok(())
 }

@@ -1,4 +1,6 @@
 -- A command gives a status of one byte, so what goes on from it may go on from the status's lowest byte
+use Rattle.std.specs.Prelude.{Err, Ok}
+use Rattle.hardware.specs.Talk.{Talk, Call, Res, end, ask, and_then, times, pick, read_raw, Reply}
 use Prim.Native.Nat.{ℕ, zero, suc, ◌+◌, ◌/◌, ◌%◌, ◌^◌, ◌<◌}
 use mathlib.Core.Bool.{Bool, true, false}
 use mathlib.Core.List.{List}
@@ -6,12 +8,10 @@ use mathlib.Core.Path.{◌≡◌, refl, ap, fun_ext}
 use native.Mathlib.Omega.{arith}
 use lib.Dec.{ltb}
 use lib.ListN.{length, set}
-use Rattle.hardware.specs.Talk.{Talk, Call, Res, ok, err, end, ask, and_then, times, pick, read_raw}
 use Rattle.hardware.specs.Block.{keep, or_stop, ◌>>=◌}
 use Rattle.hardware.specs.declared.Action.{Action}
 use Rattle.hardware.specs.declared.Error.{Error}
 use Rattle.hardware.specs.declared.Port.{Port}
-use Rattle.hardware.specs.declared.Reply.{Reply}
 use Rattle.words.specs.Hostif.{flex_mng, fits, reply_words}
 use Rattle.reference.specs.Sync.{with_block, held_given, held_done, held_taken, acquire_bits, release_bits}
 use Rattle.hostif.specs.Command.{status_of}
@@ -19,8 +19,8 @@ use Rattle.reference.specs.Hostif.{post, rest, reply_length, reply_status, recei
 
 -- each good end is a byte
 data Bytes : Talk (Res ℕ × List ℕ) → Type 0 where
-  status : {v : ℕ} {b : List ℕ} → v < 256 → Bytes (end (ok v, b))
-  stopped : {e : Error} {b : List ℕ} → Bytes (end (err e, b))
+  status : {v : ℕ} {b : List ℕ} → v < 256 → Bytes (end (Ok v, b))
+  stopped : {e : Error} {b : List ℕ} → Bytes (end (Err e, b))
   asks : {a : Action} {k : Reply → Talk (Res ℕ × List ℕ)} → ((r : Reply) → Bytes (k r)) → Bytes (ask a k)
 
 then_bytes : {A : Type 0} (t : Talk A) (k : A → Talk (Res ℕ × List ℕ)) → ((a : A) → Bytes (k a)) → Bytes (and_then t k)
@@ -29,8 +29,8 @@ then_bytes (ask a c) k h = asks (λ r. then_bytes (c r) k h)
 
 stop_bytes : {A : Type 0} (k : A → List ℕ → Talk (Res ℕ × List ℕ)) → ((a : A) (b : List ℕ) → Bytes (k a b)) → (r : Res A) (b : List ℕ)
     → Bytes (or_stop k r b)
-stop_bytes k h (ok a) b = h a b
-stop_bytes k h (err e) b = stopped
+stop_bytes k h (Ok a) b = h a b
+stop_bytes k h (Err e) b = stopped
 
 bind_bytes : {A : Type 0} (t : List ℕ → Talk (Res A × List ℕ)) (k : A → List ℕ → Talk (Res ℕ × List ℕ)) → ((a : A) (b : List ℕ) → Bytes (k a b))
     → (b : List ℕ) → Bytes ((t >>= k) b)
@@ -66,17 +66,17 @@ exchange_bytes b =
 
 -- the release's error takes the place of a status
 given_bytes : (b : List ℕ) (give : Call (Unit {0})) {t : Talk (Res ℕ × List ℕ)} → Bytes t → Bytes (and_then t (held_done (with_block b) give))
-given_bytes b give (status {v} {b = b'} h) = then_bytes give (held_given (with_block b) (ok v, b')) (given h)
+given_bytes b give (status {v} {b = b'} h) = then_bytes give (held_given (with_block b) (Ok v, b')) (given h)
   where
-    given : {v : ℕ} {b' : List ℕ} → v < 256 → (r : Res (Unit {0})) → Bytes (held_given (with_block b) (ok v, b') r)
-    given h (ok _) = status h
-    given h (err e) = stopped
-given_bytes b give (stopped {e} {b = b'}) = then_bytes give (held_given (with_block b) (err e, b')) (λ r. stopped)
+    given : {v : ℕ} {b' : List ℕ} → v < 256 → (r : Res (Unit {0})) → Bytes (held_given (with_block b) (Ok v, b') r)
+    given h (Ok _) = status h
+    given h (Err e) = stopped
+given_bytes b give (stopped {e} {b = b'}) = then_bytes give (held_given (with_block b) (Err e, b')) (λ r. stopped)
 given_bytes b give (asks h) = asks (λ r. given_bytes b give (h r))
 
 taken_bytes : (b : List ℕ) (give : Call (Unit {0})) (r : Res (Unit {0})) → Bytes (held_taken (with_block b) give (exchange b) r)
-taken_bytes b give (ok _) = given_bytes b give (exchange_bytes b)
-taken_bytes b give (err e) = stopped
+taken_bytes b give (Ok _) = given_bytes b give (exchange_bytes b)
+taken_bytes b give (Err e) = stopped
 
 command_bytes : (port : Port) (b : List ℕ) → Bytes (command port b)
 unfolding command
@@ -87,7 +87,7 @@ small : (v : ℕ) → v < 256 → v % 256 ≡ v
 small v h = omega arith
 
 cut : {B : Type 0} (f : Res ℕ × List ℕ → Talk B) {t : Talk (Res ℕ × List ℕ)} → Bytes t → and_then t (λ p. f (status_of p.0, p.1)) ≡ and_then t f
-cut f (status {v} {b} h) = ap (λ (s : ℕ). f (ok s, b)) (small v h)
+cut f (status {v} {b} h) = ap (λ (s : ℕ). f (Ok s, b)) (small v h)
 cut f stopped = refl
 cut f (asks {a} h) = ap (ask a) (fun_ext (λ r. cut f (h r)))
 

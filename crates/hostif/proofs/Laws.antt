@@ -1,4 +1,5 @@
 -- What is stored at the front of a block, and what a token says
+use Rattle.hardware.specs.Talk.{Talk, Res, and_then}
 use Prim.Native.Nat.{ℕ, ◌+◌, ◌≤◌}
 use mathlib.Core.Bool.{Bool}
 use mathlib.Core.List.{List}
@@ -6,7 +7,6 @@ use mathlib.Core.Path.{◌≡◌, refl, ap, sym, ◌∙◌}
 use native.Mathlib.Omega.{arith}
 use lib.ListN.{length, take, drop}
 use lib.Seq.{sets, sets-eq, take_at}
-use Rattle.hardware.specs.Talk.{Talk, Res, and_then}
 use Rattle.hardware.specs.declared.Port.{Port}
 use Rattle.reference.specs.Hostif.{command, token, token_block, token_answer}
 use Rattle.hostif.specs.Token.{token_got}

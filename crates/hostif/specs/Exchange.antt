@@ -1,16 +1,15 @@
 -- What a suspended machine of exchange.rt still says, and how it leaves the block
+use Rattle.hardware.specs.Told.{told_by}
+use Rattle.hardware.specs.declared.Action.{Action}
+use Rattle.hardware.specs.declared.Step.{Step}
+use Rattle.hardware.specs.Talk.{Talk, Call, Res, end, pick, raw, read_raw, Reply}
 use Rattle.std.specs.Prelude.{ℕ, ◌+◌, List, ltb, length, set}
-use Rattle.hardware.specs.Talk.{Talk, Call, Res, ask, end, pick, raw, read_raw}
 use Rattle.hardware.specs.Block.{Blk, keep}
 use Rattle.hardware.specs.Block as blk
-use Rattle.hardware.specs.Told.{word_of}
-use Rattle.hardware.specs.declared.Reply.{Reply}
 use Rattle.reference.specs.Hostif.{received, rest}
 use Rattle.hostif.specs.Post.{resume_post}
 use Rattle.hostif.specs.declared.exchange.Exchange.{Exchange}
 use Rattle.hostif.specs.declared.exchange.Exchange.TheVariants as exchange
-use Rattle.hostif.specs.declared.exchange.ExchangeStep.{ExchangeStep}
-use Rattle.hostif.specs.declared.exchange.ExchangeStep.TheVariants as exchangestep
 
 abbrev pub exchange_after_post : Call ℕ → Blk ℕ
 exchange_after_post t b = blk.◌>>=◌ (keep t) (λ last. blk.◌>>=◌ (keep (read_raw 0x15800)) (received last)) b
@@ -29,6 +28,5 @@ resume_exchange (exchange.Post s) b r = exchange_after_post (resume_post s b r) 
 resume_exchange (exchange.Head last) b r = exchange_head last (raw r) b
 resume_exchange (exchange.Rest status i n) b r = exchange_rest status i n (raw r) b
 
-abbrev pub told_exchange : List ℕ → ExchangeStep → Talk (Res ℕ × List ℕ)
-told_exchange b (exchangestep.Ask a s) = ask a (λ r. resume_exchange s b r)
-told_exchange b (exchangestep.Done status) = end (word_of status, b)
+abbrev pub told_exchange : List ℕ → Step Action Exchange (Res ℕ) → Talk (Res ℕ × List ℕ)
+told_exchange b = told_by (λ status. (status, b)) (λ s r. resume_exchange s b r)

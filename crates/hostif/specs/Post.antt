@@ -1,15 +1,14 @@
 -- What a suspended machine of post.rt still says, with the block as it is
-use Rattle.std.specs.Prelude.{ℕ, List}
+use Rattle.hardware.specs.Told.{told}
+use Rattle.hardware.specs.declared.Action.{Action}
+use Rattle.hardware.specs.declared.Step.{Step}
+use Rattle.hardware.specs.Talk.{Call, Res, end, ◌>>=◌, ◌>>◌, read, write, delay, pick, fail, is_clear, checked, done, Reply}
+use Rattle.std.specs.Prelude.{ℕ, List, Ok}
 use Rattle.std.specs.Int.Bits.{bit_or}
-use Rattle.hardware.specs.Talk.{Call, Res, ok, ask, end, ◌>>=◌, ◌>>◌, read, write, delay, pick, fail, is_clear, checked, done}
-use Rattle.hardware.specs.Told.{word_of}
 use Rattle.hardware.specs.declared.Error.TheVariants.{HostInterface}
-use Rattle.hardware.specs.declared.Reply.{Reply}
 use Rattle.reference.specs.Hostif.{posted, hicr_times, write_words}
 use Rattle.hostif.specs.declared.post.Post.{Post}
 use Rattle.hostif.specs.declared.post.Post.TheVariants as post
-use Rattle.hostif.specs.declared.post.PostStep.{PostStep}
-use Rattle.hostif.specs.declared.post.PostStep.TheVariants as poststep
 
 abbrev pub post_hicr : List ℕ → Res ℕ → Call ℕ
 post_hicr b hicr = end hicr >>= (λ hicr. pick (is_clear hicr 1) (fail (HostInterface hicr)) (write_words b hicr 0))
@@ -20,7 +19,7 @@ post_fwri b t =
     do
       t
       hicr ← read 0x15f00
-      post_hicr b (ok hicr)
+      post_hicr b (Ok hicr)
 
 abbrev pub post_fwsts : List ℕ → Res ℕ → Call ℕ
 post_fwsts b fwsts = end fwsts >>= (λ fwsts. post_fwri b (write 0x15f0c (bit_or fwsts 0x200)))
@@ -37,6 +36,5 @@ resume_post (post.Started hicr) b r = end (done r) >> hicr_times 50000 (bit_or h
 resume_post (post.Polling n) b r = post_polled n (checked r)
 resume_post (post.Pausing n last) b r = hicr_times n last
 
-abbrev pub told_post : List ℕ → PostStep → Call ℕ
-told_post b (poststep.Ask a s) = ask a (λ r. resume_post s b r)
-told_post b (poststep.Done last) = end (word_of last)
+abbrev pub told_post : List ℕ → Step Action Post (Res ℕ) → Call ℕ
+told_post b = told (λ s r. resume_post s b r)

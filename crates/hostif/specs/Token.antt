@@ -1,20 +1,14 @@
 -- What a suspended token still says: its block is the first two words of the lent one
+use Rattle.hardware.specs.Told.{told}
+use Rattle.hardware.specs.declared.Action.{Action}
+use Rattle.hardware.specs.declared.Step.{Step}
+use Rattle.hardware.specs.Talk.{Talk, Call, Res, end, and_then, ◌>>=◌, Reply}
 use Rattle.std.specs.Prelude.{ℕ, Bool, List}
 use Rattle.std.proofs.Math.ListN as list
-use Rattle.hardware.specs.Talk.{Talk, Call, Res, ok, err, ask, end, and_then, ◌>>=◌}
 use Rattle.hardware.specs.declared.Port.{Port}
-use Rattle.hardware.specs.declared.Reply.{Reply}
 use Rattle.reference.specs.Hostif.{token_status}
 use Rattle.hostif.specs.Command.{status_of, resume_command}
 use Rattle.hostif.specs.declared.command.Command.{Command}
-use Rattle.hostif.specs.declared.token.Flag.{Flag}
-use Rattle.hostif.specs.declared.token.Flag.TheVariants as flag
-use Rattle.hostif.specs.declared.token.TokenStep.{TokenStep}
-use Rattle.hostif.specs.declared.token.TokenStep.TheVariants as tokenstep
-
-abbrev pub flag_of : Flag → Res Bool
-flag_of (flag.Ok v) = ok v
-flag_of (flag.Err e) = err e
 
 -- once its command has ended
 abbrev pub token_got : Bool → Res ℕ → Call Bool
@@ -26,6 +20,5 @@ token_after take t = and_then t (λ p. token_got take p.0)
 abbrev pub resume_token : Port → Bool → Command → List ℕ → Reply → Call Bool
 resume_token port take s b r = token_after take (resume_command port s (list.take 2 b) r)
 
-abbrev pub told_token : Port → Bool → List ℕ → TokenStep → Call Bool
-told_token port take b (tokenstep.Ask a s) = ask a (λ r. resume_token port take s b r)
-told_token port take b (tokenstep.Done r) = end (flag_of r)
+abbrev pub told_token : Port → Bool → List ℕ → Step Action Command (Res Bool) → Call Bool
+told_token port take b = told (λ s r. resume_token port take s b r)

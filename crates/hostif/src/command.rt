@@ -3,16 +3,16 @@ ghost use Rattle.std.specs.Prelude.{ℕ, List, ◌≡◌, take};
 ghost use Rattle.hardware.specs.Talk.{ask};
 ghost use Rattle.hardware.specs.Regs.{regs};
 ghost use Rattle.hardware.specs.declared.Action.TheVariants.{Read};
-ghost use Rattle.hardware.specs.Told.{word_of, unit_of};
 ghost use Rattle.reference.specs.Sync.{both};
 ghost use Rattle.reference.specs.Hostif.{command};
 ghost use Rattle.sync.specs.Sync.{told_sync};
 ghost use Rattle.hostif.specs.Exchange.{told_exchange};
 ghost use Rattle.hostif.specs.Command.{resume_command, told_command, command_acquired, command_after_body, command_released, command_synced};
 
-use crate::exchange::{Exchange, ExchangeStep};
-use hardware::{Action, Port, Reply, Unit, Word};
-use sync::sync::{Sync, SyncStep};
+use crate::exchange::Exchange;
+use drive::machine::Machine;
+use hardware::{Action, Error, Port, Reply, Step};
+use sync::sync::Sync;
 use words::semaphore::Bits;
 
 // Where it runs acquire_bits or release_bits.
@@ -20,7 +20,7 @@ use words::semaphore::Bits;
 pub enum CommandPlace {
     Acquiring,
     // with what the closure gave
-    Releasing(Word),
+    Releasing(Result<u32, Error>),
 }
 
 #[derive(Clone, Copy)]
@@ -29,62 +29,58 @@ pub enum Command {
     Body(Exchange),
 }
 
-// Done: the reply's status
-#[derive(Clone, Copy)]
-pub enum CommandStep {
-    Ask(Action, Command),
-    Done(Word),
-}
-
 // locked's end: the body's error, then the release's.
-pub fn both(res: Word, released: Unit) -> Word
-    ensures { both (word_of res) (unit_of released) ≡ word_of result }
+pub fn both(res: Result<u32, Error>, released: Result<(), Error>) -> Result<u32, Error>
+    ensures { both res released ≡ result }
 {
     match res {
-        Word::Err(e) => Word::Err(e),
-        Word::Ok(value) => match released {
-            Unit::Ok => Word::Ok(value),
-            Unit::Err(e) => Word::Err(e),
+        Err(e) => Err(e),
+        Ok(value) => match released {
+            Ok(()) => Ok(value),
+            Err(e) => Err(e),
         },
     }
 }
 
 impl Command {
-    fn acquired(port: Port, step: SyncStep) -> CommandStep
+    fn acquired(
+        port: Port,
+        step: Step<Action, Sync, Result<(), Error>>,
+    ) -> Step<Action, Command, Result<u32, Error>>
         ensures { (b : List ℕ) → told_command port b result ≡ command_acquired port (told_sync 0x400 step) b }
     {
         match step {
-            SyncStep::Ask(a, s) => CommandStep::Ask(a, Command::Sync(CommandPlace::Acquiring, s)),
-            SyncStep::Done(r) => match r {
-                Unit::Ok => Command::after_body(port, Exchange::start()),
-                Unit::Err(e) => CommandStep::Done(Word::Err(e)),
+            Step::Ask(a, s) => Step::Ask(a, Command::Sync(CommandPlace::Acquiring, s)),
+            Step::Done(r) => match r {
+                Ok(()) => Command::after_body(port, Exchange::start()),
+                Err(e) => Step::Done(Err(e)),
             },
         }
     }
 
     // Whatever the body gave, SW_MNG is given back.
-    fn after_body(port: Port, step: ExchangeStep) -> CommandStep
+    fn after_body(
+        port: Port,
+        step: Step<Action, Exchange, Result<u32, Error>>,
+    ) -> Step<Action, Command, Result<u32, Error>>
         ensures { (b : List ℕ) → told_command port b result ≡ command_after_body port (told_exchange b step) }
     {
         match step {
-            ExchangeStep::Ask(a, s) => CommandStep::Ask(a, Command::Body(s)),
-            ExchangeStep::Done(result) => Command::released(
-                port,
-                result,
-                Sync::give(port, Bits::SW_MNG),
-            ),
+            Step::Ask(a, s) => Step::Ask(a, Command::Body(s)),
+            Step::Done(result) => Command::released(port, result, Sync::give(port, Bits::SW_MNG)),
         }
     }
 
-    fn released(port: Port, res: Word, step: SyncStep) -> CommandStep
-        ensures { (b : List ℕ) → told_command port b result ≡ command_released (word_of res) (told_sync 0x400 step) b }
+    fn released(
+        port: Port,
+        res: Result<u32, Error>,
+        step: Step<Action, Sync, Result<(), Error>>,
+    ) -> Step<Action, Command, Result<u32, Error>>
+        ensures { (b : List ℕ) → told_command port b result ≡ command_released res (told_sync 0x400 step) b }
     {
         match step {
-            SyncStep::Ask(a, s) => CommandStep::Ask(
-                a,
-                Command::Sync(CommandPlace::Releasing(res), s),
-            ),
-            SyncStep::Done(r) => CommandStep::Done(both(res, r)),
+            Step::Ask(a, s) => Step::Ask(a, Command::Sync(CommandPlace::Releasing(res), s)),
+            Step::Done(r) => Step::Done(both(res, r)),
         }
     }
 
@@ -96,7 +92,11 @@ impl Command {
         Command::Sync(CommandPlace::Acquiring, Sync::first(port, Bits::SW_MNG))
     }
 
-    pub fn synced(port: Port, place: CommandPlace, step: SyncStep) -> CommandStep
+    pub fn synced(
+        port: Port,
+        place: CommandPlace,
+        step: Step<Action, Sync, Result<(), Error>>,
+    ) -> Step<Action, Command, Result<u32, Error>>
         ensures { (b : List ℕ) → told_command port b result ≡ command_synced port place (told_sync 0x400 step) b }
     {
         match place {
@@ -105,7 +105,12 @@ impl Command {
         }
     }
 
-    pub fn next(self, port: Port, block: &mut [u32], reply: Reply) -> CommandStep
+    pub fn next(
+        self,
+        port: Port,
+        block: &mut [u32],
+        reply: Reply,
+    ) -> Step<Action, Command, Result<u32, Error>>
         ensures { told_command port block.new result ≡ resume_command port self block.old reply }
     {
         match self {
@@ -118,7 +123,13 @@ impl Command {
     }
 
     // The same of a command of so many words, the first of a longer block.
-    pub fn next_of(self, words: usize, port: Port, block: &mut [u32], reply: Reply) -> CommandStep
+    pub fn next_of(
+        self,
+        words: usize,
+        port: Port,
+        block: &mut [u32],
+        reply: Reply,
+    ) -> Step<Action, Command, Result<u32, Error>>
         ensures { told_command port (take words block.new) result ≡ resume_command port self (take words block.old) reply }
     {
         if words <= block.len() {

@@ -1,12 +1,11 @@
 // `command`'s closure: what it does while it holds SW_MNG.
 ghost use Rattle.std.specs.Prelude.{ℕ, List, ◌≡◌};
-ghost use Rattle.hardware.specs.Told.{word_of};
 ghost use Rattle.reference.specs.Hostif.{exchange, received, rest};
 ghost use Rattle.hostif.specs.Post.{told_post};
 ghost use Rattle.hostif.specs.Exchange.{resume_exchange, told_exchange, exchange_after_post, exchange_rest};
 
-use crate::post::{Post, PostStep};
-use hardware::{Action, Error, Reply, Word};
+use crate::post::Post;
+use hardware::{Action, Error, Reply, Step, raw};
 use words::hostif::{FLEX_MNG, fits, flex_mng, reply_words};
 
 #[derive(Clone, Copy)]
@@ -18,29 +17,28 @@ pub enum Exchange {
     Rest(u32, usize, u32),
 }
 
-// Done: the reply's status
-#[derive(Clone, Copy)]
-pub enum ExchangeStep {
-    Ask(Action, Exchange),
-    Done(Word),
-}
-
 impl Exchange {
-    fn after_post(step: PostStep) -> ExchangeStep
+    fn after_post(
+        step: Step<Action, Post, Result<u32, Error>>,
+    ) -> Step<Action, Exchange, Result<u32, Error>>
         ensures { (b : List ℕ) → told_exchange b result ≡ exchange_after_post (told_post b step) b }
     {
         match step {
-            PostStep::Ask(a, s) => ExchangeStep::Ask(a, Exchange::Post(s)),
-            PostStep::Done(r) => match r {
-                Word::Err(e) => ExchangeStep::Done(Word::Err(e)),
-                Word::Ok(last) => ExchangeStep::Ask(Action::Read(FLEX_MNG), Exchange::Head(last)),
+            Step::Ask(a, s) => Step::Ask(a, Exchange::Post(s)),
+            Step::Done(r) => match r {
+                Err(e) => Step::Done(Err(e)),
+                Ok(last) => Step::Ask(Action::Read(FLEX_MNG), Exchange::Head(last)),
             },
         }
     }
 
     // A reply that does not fit leaves the block as it was.
     #[tactic(auto, using(crate::proofs::Fits::fits_some), unfolding(words::specs::Hostif::reply_words, reference::specs::Hostif::received))]
-    fn received(block: &mut [u32], last: u32, head: u32) -> ExchangeStep
+    fn received(
+        block: &mut [u32],
+        last: u32,
+        head: u32,
+    ) -> Step<Action, Exchange, Result<u32, Error>>
         ensures { told_exchange block.new result ≡ received last head block.old }
     {
         let len = (head >> 8) % 256;
@@ -49,51 +47,62 @@ impl Exchange {
             block[0] = head;
             Exchange::again_rest(block, (head >> 16) % 256, words, 1)
         } else {
-            ExchangeStep::Done(Word::Err(Error::HostInterface { hicr: last }))
+            Step::Done(Err(Error::HostInterface { hicr: last }))
         }
     }
 
     #[tactic(auto, using(hardware::proofs::Laws::block_more, hardware::proofs::Laws::block_none))]
-    fn again_rest(block: &[u32], status: u32, left: u32, i: usize) -> ExchangeStep
+    fn again_rest(
+        block: &[u32],
+        status: u32,
+        left: u32,
+        i: usize,
+    ) -> Step<Action, Exchange, Result<u32, Error>>
         ensures { told_exchange block.now result ≡ rest left status i block.now }
     {
         if left == 0 {
-            return ExchangeStep::Done(Word::Ok(status));
+            return Step::Done(Ok(status));
         }
         if i < block.len() {
-            ExchangeStep::Ask(
+            Step::Ask(
                 Action::Read(flex_mng(i)),
                 Exchange::Rest(status, i, left - 1),
             )
         } else {
-            ExchangeStep::Done(Word::Ok(status))
+            Step::Done(Ok(status))
         }
     }
 
-    fn got(block: &mut [u32], status: u32, i: usize, left: u32, word: Word) -> ExchangeStep
-        ensures { told_exchange block.new result ≡ exchange_rest status i left (word_of word) block.old }
+    fn got(
+        block: &mut [u32],
+        status: u32,
+        i: usize,
+        left: u32,
+        word: Result<u32, Error>,
+    ) -> Step<Action, Exchange, Result<u32, Error>>
+        ensures { told_exchange block.new result ≡ exchange_rest status i left word block.old }
     {
         if i < block.len() {
             match word {
-                Word::Err(e) => ExchangeStep::Done(Word::Err(e)),
-                Word::Ok(value) => {
+                Err(e) => Step::Done(Err(e)),
+                Ok(value) => {
                     block[i] = value;
                     Exchange::again_rest(block, status, left, i + 1)
                 }
             }
         } else {
-            ExchangeStep::Done(Word::Ok(status))
+            Step::Done(Ok(status))
         }
     }
 
-    pub fn start() -> ExchangeStep
+    pub fn start() -> Step<Action, Exchange, Result<u32, Error>>
         ensures { (b : List ℕ) → told_exchange b result ≡ exchange b }
     {
         Exchange::after_post(Post::start())
     }
 
     // The reply is data: all ones is a value, so it is read raw.
-    pub fn next(self, block: &mut [u32], reply: Reply) -> ExchangeStep
+    pub fn next(self, block: &mut [u32], reply: Reply) -> Step<Action, Exchange, Result<u32, Error>>
         ensures { told_exchange block.new result ≡ resume_exchange self block.old reply }
     {
         match self {
@@ -101,11 +110,11 @@ impl Exchange {
                 let step = s.next(block, reply);
                 Exchange::after_post(step)
             }
-            Exchange::Head(last) => match reply.raw() {
-                Word::Err(e) => ExchangeStep::Done(Word::Err(e)),
-                Word::Ok(head) => Exchange::received(block, last, head),
+            Exchange::Head(last) => match raw(reply) {
+                Err(e) => Step::Done(Err(e)),
+                Ok(head) => Exchange::received(block, last, head),
             },
-            Exchange::Rest(status, i, left) => Exchange::got(block, status, i, left, reply.raw()),
+            Exchange::Rest(status, i, left) => Exchange::got(block, status, i, left, raw(reply)),
         }
     }
 }

@@ -5,24 +5,10 @@ ghost use Rattle.hardware.specs.Regs.{regs};
 ghost use Rattle.hardware.specs.declared.Action.TheVariants.{Read};
 ghost use Rattle.reference.specs.Hostif.{token, token_block, token_word, token_status};
 ghost use Rattle.hostif.specs.Command.{told_command};
-ghost use Rattle.hardware.specs.Told.{word_of};
-ghost use Rattle.hostif.specs.Token.{flag_of, resume_token, told_token, token_after, token_got};
+ghost use Rattle.hostif.specs.Token.{resume_token, told_token, token_after, token_got};
 
-use crate::command::{Command, CommandStep};
-use hardware::{Action, Error, Port, Regs, Word};
-
-// R<bool>
-#[derive(Clone, Copy)]
-pub enum Flag {
-    Ok(bool),
-    Err(Error),
-}
-
-#[derive(Clone, Copy)]
-pub enum TokenStep {
-    Ask(Action, Command),
-    Done(Flag),
-}
+use crate::command::Command;
+use hardware::{Action, Error, Port, Regs, Step};
 
 // Ask for it, or give it back.
 #[derive(Clone, Copy)]
@@ -53,42 +39,46 @@ impl Token {
 
     // Busy is an answer where it was asked for.
     #[tactic(auto, unfolding(reference::specs::Hostif::token_status))]
-    fn status(self, status: u8) -> Flag
-        ensures { token_status self.take status ≡ end (flag_of result) }
+    fn status(self, status: u8) -> Result<bool, Error>
+        ensures { token_status self.take status ≡ end result }
     {
         if status == Token::OK {
-            return Flag::Ok(true);
+            return Ok(true);
         }
         if status == Token::BUSY {
             if self.take {
-                return Flag::Ok(false);
+                return Ok(false);
             }
         }
-        Flag::Err(Error::Firmware {
+        Err(Error::Firmware {
             command: Token::COMMAND,
             status,
         })
     }
 
     // What a command of it gave.
-    pub fn answered(self, got: Word) -> Flag
-        ensures { token_got self.take (word_of got) ≡ end (flag_of result) }
+    pub fn answered(self, got: Result<u32, Error>) -> Result<bool, Error>
+        ensures { token_got self.take got ≡ end result }
     {
         match got {
-            Word::Err(e) => Flag::Err(e),
-            Word::Ok(status) => {
+            Err(e) => Err(e),
+            Ok(status) => {
                 let byte = (status % 256) as u8;
                 self.status(byte)
             }
         }
     }
 
-    pub fn after_command(self, port: Port, step: CommandStep) -> TokenStep
+    pub fn after_command(
+        self,
+        port: Port,
+        step: Step<Action, Command, Result<u32, Error>>,
+    ) -> Step<Action, Command, Result<bool, Error>>
         ensures { (b : List ℕ) → told_token port self.take b result ≡ token_after self.take (told_command port (take 2 b) step) }
     {
         match step {
-            CommandStep::Ask(a, s) => TokenStep::Ask(a, s),
-            CommandStep::Done(got) => TokenStep::Done(self.answered(got)),
+            Step::Ask(a, s) => Step::Ask(a, s),
+            Step::Done(got) => Step::Done(self.answered(got)),
         }
     }
 
@@ -117,12 +107,16 @@ impl Token {
     }
 
     #[tactic(auto, unfolding(reference::specs::Hostif::token))]
-    pub fn start(self, port: Port, block: &mut [u32; 16]) -> TokenStep
+    pub fn start(
+        self,
+        port: Port,
+        block: &mut [u32; 16],
+    ) -> Step<Action, Command, Result<bool, Error>>
         ensures { told_token port self.take block.new result ≡ token port self.take }
     {
         let family = port.family;
-        let regs = Regs::of(family);
+        let regs = Regs::from(family);
         let state = self.first(port, block);
-        TokenStep::Ask(Action::Read(regs.swsm), state)
+        Step::Ask(Action::Read(regs.swsm), state)
     }
 }

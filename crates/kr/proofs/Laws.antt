@@ -1,11 +1,11 @@
 -- restart_an inside another sequence, whose first value is the answer
+use Rattle.std.specs.Prelude.{Some}
+use Rattle.hardware.specs.Talk.{Call, ◌>>=◌, ◌>>◌, return}
 use Prim.Native.Nat.{ℕ}
 use mathlib.Core.Path.{◌≡◌, refl, ap, ◌∙◌, fun_ext}
-use Rattle.hardware.specs.Talk.{Call, ◌>>=◌, ◌>>◌, return}
 use Rattle.hardware.specs.declared.Family.{Family}
 use Rattle.hardware.specs.declared.Family.TheVariants.{X552, X553}
 use Rattle.hardware.specs.declared.Port.{Port}
-use Rattle.answers.specs.declared.MaybeWord.TheVariants as maybe
 use Rattle.reference.specs.X552.{restart_an, restart_lane, restarted}
 use Rattle.reference.proofs.Laws.{bind_assoc}
 use Rattle.kr.specs.Modify.{modify_of}
@@ -17,7 +17,7 @@ module _ (port : Port) (first : ℕ) where
   lane X552 value = refl
   lane X553 value = bind_assoc (modify_of port (change_of place.RestartLane)) (λ _. return value) (λ _. return first)
 
-  pub restart_first : restarted 10 port first ≡ sequence_at port place.Restart (maybe.Is first)
+  pub restart_first : restarted 10 port first ≡ sequence_at port place.Restart (Some first)
   unfolding restart_an
   restart_first =
       bind_assoc (modify_of port (change_of place.Restart)) (λ value. restart_lane 10 port value port.family) (λ _. return first)

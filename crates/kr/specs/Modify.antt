@@ -1,7 +1,8 @@
 -- What a suspended `kr_modify` still says, from what its job gives
-use Rattle.std.specs.Prelude.{ℕ, List}
+use Rattle.access.specs.Access.{told_job}
+use Rattle.hardware.specs.declared.Step.{Step}
 use Rattle.hardware.specs.Talk.{Call, Res, end, and_then, ◌>>=◌, return}
-use Rattle.hardware.specs.Told.{word_of}
+use Rattle.std.specs.Prelude.{ℕ, List}
 use Rattle.hardware.specs.declared.Port.{Port}
 use Rattle.words.specs.Kr.{krm}
 use Rattle.reference.specs.Mdio.{changed}
@@ -11,8 +12,6 @@ use Rattle.access.specs.declared.access.Job.{Job}
 use Rattle.kr.specs.declared.modify.Change.{Change}
 use Rattle.kr.specs.declared.modify.KrModify.{KrModify}
 use Rattle.kr.specs.declared.modify.KrModify.TheVariants as modify
-use Rattle.kr.specs.declared.modify.KrModifyStep.{KrModifyStep}
-use Rattle.kr.specs.declared.modify.KrModifyStep.TheVariants as modifystep
 
 -- the bits to clear, and those to set
 abbrev pub change : ℕ → ℕ → ℕ → Change
@@ -32,6 +31,5 @@ resume_modify port c s got = end got >>= λ v. got_modify port c s v
 abbrev pub begun_modify : Port → Change → List ℕ → Job → Call ℕ
 begun_modify port c b job = and_then (job_talk port job b) (λ p. resume_modify port c modify.Reading p.0)
 
-abbrev pub told_modify : Port → Change → List ℕ → KrModifyStep → Call ℕ
-told_modify port c b (modifystep.Ask job s) = and_then (job_talk port job b) (λ p. resume_modify port c s p.0)
-told_modify port c b (modifystep.Done r) = end (word_of r)
+abbrev pub told_modify : Port → Change → List ℕ → Step Job KrModify (Res ℕ) → Call ℕ
+told_modify port c b = told_job port b (λ s got _. resume_modify port c s got)

@@ -1,19 +1,16 @@
 -- What a suspended sequence of `kr_modify` still says, from what its job gives
-use Rattle.std.specs.Prelude.{ℕ, List}
-use Rattle.hardware.specs.Talk.{Call, Res, end, and_then, ◌>>=◌, ◌>>◌, return}
-use Rattle.hardware.specs.Told.{word_of}
+use Rattle.access.specs.declared.access.Job.{Job}
+use Rattle.access.specs.Access.{told_job}
+use Rattle.hardware.specs.declared.Step.{Step}
+use Rattle.hardware.specs.Talk.{Call, Res, ◌>>=◌, ◌>>◌, return}
+use Rattle.std.specs.Prelude.{ℕ, List, None, Option, Some}
 use Rattle.hardware.specs.declared.Port.{Port}
-use Rattle.answers.specs.declared.MaybeWord.{MaybeWord}
-use Rattle.answers.specs.declared.MaybeWord.TheVariants as maybe
 use Rattle.reference.specs.X552.{kr_autoneg_set, kr_autoneg_lane, ixfi_set, restart_lane, restarted}
-use Rattle.access.specs.Access.{job_talk}
 use Rattle.kr.specs.Modify.{change, modify_of, resume_modify}
 use Rattle.kr.specs.declared.modify.Change.{Change}
 use Rattle.kr.specs.declared.sequence.KrPlace.{KrPlace}
 use Rattle.kr.specs.declared.sequence.KrPlace.TheVariants as place
 use Rattle.kr.specs.declared.sequence.Sequence.{Sequence}
-use Rattle.kr.specs.declared.sequence.SequenceStep.{SequenceStep}
-use Rattle.kr.specs.declared.sequence.SequenceStep.TheVariants as sequencestep
 
 -- what each call of `kr_modify` is for
 abbrev pub change_of : KrPlace → Change
@@ -28,9 +25,9 @@ change_of place.Restart = change 0x420c 0 0x80000000
 change_of place.RestartLane = change 0x5054 0 0x80000000
 
 -- the first value written, where this one is written now
-abbrev pub first_of : MaybeWord → ℕ → ℕ
-first_of maybe.Nothing value = value
-first_of (maybe.Is first) value = first
+abbrev pub first_of : (Option ℕ) → ℕ → ℕ
+first_of None value = value
+first_of (Some first) value = first
 
 -- what `ixfi` does after each of its calls
 abbrev pub ixfi_coeff : Port → ℕ → Call ℕ
@@ -54,19 +51,18 @@ sequence_then port place.Coeff first = restarted 10 port first
 sequence_then port place.Restart first = restart_lane 10 port first port.family
 sequence_then port place.RestartLane first = return first
 
-abbrev pub sequence_after : Port → KrPlace → MaybeWord → Call ℕ → Call ℕ
+abbrev pub sequence_after : Port → KrPlace → (Option ℕ) → Call ℕ → Call ℕ
 sequence_after port p first t = t >>= λ value. sequence_then port p (first_of first value)
 
-abbrev pub sequence_at : Port → KrPlace → MaybeWord → Call ℕ
+abbrev pub sequence_at : Port → KrPlace → (Option ℕ) → Call ℕ
 sequence_at port p first = sequence_after port p first (modify_of port (change_of p))
 
 -- from this place on, with nothing written yet
 abbrev pub sequence_of : Port → KrPlace → Call ℕ
-sequence_of port p = sequence_at port p maybe.Nothing
+sequence_of port p = sequence_at port p None
 
 abbrev pub resume_sequence : Port → Sequence → Res ℕ → Call ℕ
 resume_sequence port s got = sequence_after port s.place s.first (resume_modify port (change_of s.place) s.modify got)
 
-abbrev pub told_sequence : Port → List ℕ → SequenceStep → Call ℕ
-told_sequence port b (sequencestep.Ask job s) = and_then (job_talk port job b) (λ p. resume_sequence port s p.0)
-told_sequence port b (sequencestep.Done r) = end (word_of r)
+abbrev pub told_sequence : Port → List ℕ → Step Job Sequence (Res ℕ) → Call ℕ
+told_sequence port b = told_job port b (λ s got _. resume_sequence port s got)

@@ -1,10 +1,9 @@
 // x552.rs's `kr_modify`: a read and a write, each an access of its own.
 ghost use Rattle.std.specs.Prelude.{ℕ, List, ◌≡◌};
-ghost use Rattle.hardware.specs.Told.{word_of};
 ghost use Rattle.kr.specs.Modify.{change, modify_of, begun_modify, resume_modify, told_modify};
 
 use access::access::Job;
-use hardware::{Port, Word};
+use hardware::{Error, Port, Step};
 use words::kr::krm;
 
 // kr_modify's arguments. The bits to keep and to set stand for the Rust's closure.
@@ -21,13 +20,6 @@ pub enum KrModify {
     Reading,
     // the value written
     Writing(u32),
-}
-
-// Done: the value written.
-#[derive(Clone, Copy)]
-pub enum KrModifyStep {
-    Ask(Job, KrModify),
-    Done(Word),
 }
 
 impl Change {
@@ -60,31 +52,36 @@ impl Change {
 
 impl KrModify {
     // The job that it begins with, as Reading.
-    #[tactic(auto, unfolding(reference::specs::X552::kr_modify))]
+    #[tactic(auto, using(hardware::proofs::Laws::then_assoc), unfolding(reference::specs::X552::kr_modify))]
     pub fn first(change: Change, port: Port) -> Job
         ensures { (b : List ℕ) → begun_modify port change b result ≡ modify_of port change }
     {
         Job::KrRead(krm(port.lan, change.port0))
     }
 
-    pub fn start(change: Change, port: Port) -> KrModifyStep
+    pub fn start(change: Change, port: Port) -> Step<Job, KrModify, Result<u32, Error>>
         ensures { (b : List ℕ) → told_modify port change b result ≡ modify_of port change }
     {
-        KrModifyStep::Ask(KrModify::first(change, port), KrModify::Reading)
+        Step::Ask(KrModify::first(change, port), KrModify::Reading)
     }
 
-    pub fn next(self, change: Change, port: Port, got: Word) -> KrModifyStep
-        ensures { (b : List ℕ) → told_modify port change b result ≡ resume_modify port change self (word_of got) }
+    pub fn next(
+        self,
+        change: Change,
+        port: Port,
+        got: Result<u32, Error>,
+    ) -> Step<Job, KrModify, Result<u32, Error>>
+        ensures { (b : List ℕ) → told_modify port change b result ≡ resume_modify port change self got }
     {
         match got {
-            Word::Err(e) => KrModifyStep::Done(Word::Err(e)),
-            Word::Ok(v) => match self {
+            Err(e) => Step::Done(Err(e)),
+            Ok(v) => match self {
                 KrModify::Reading => {
                     let value = v & change.keep | change.set;
                     let address = krm(port.lan, change.port0);
-                    KrModifyStep::Ask(Job::KrWrite(address, value), KrModify::Writing(value))
+                    Step::Ask(Job::KrWrite(address, value), KrModify::Writing(value))
                 }
-                KrModify::Writing(value) => KrModifyStep::Done(Word::Ok(value)),
+                KrModify::Writing(value) => Step::Done(Ok(value)),
             },
         }
     }

@@ -2,24 +2,13 @@
 // written.
 ghost use Rattle.std.specs.Prelude.{ℕ, List, ◌≡◌};
 ghost use Rattle.hardware.specs.Talk.{pick};
-ghost use Rattle.hardware.specs.Told.{word_of};
 ghost use Rattle.reference.specs.X552.{kr_autoneg_set, ixfi_set};
 ghost use Rattle.kr.specs.Modify.{told_modify};
-ghost use Rattle.kr.specs.Sequence.{
-  first_of,
-  change_of,
-  sequence_of,
-  sequence_then,
-  sequence_at,
-  sequence_after,
-  resume_sequence,
-  told_sequence,
-};
+ghost use Rattle.kr.specs.Sequence.{first_of, change_of, sequence_of, sequence_then, sequence_at, sequence_after, resume_sequence, told_sequence};
 
-use crate::modify::{Change, KrModify, KrModifyStep};
+use crate::modify::{Change, KrModify};
 use access::access::Job;
-use answers::MaybeWord;
-use hardware::{Family, Port, Word};
+use hardware::{Error, Family, Port, Step};
 
 // Which call of kr_modify.
 #[derive(Clone, Copy)]
@@ -45,14 +34,8 @@ pub enum KrPlace {
 pub struct Sequence {
     pub place: KrPlace,
     // the first value written
-    pub first: MaybeWord,
+    pub first: Option<u32>,
     pub modify: KrModify,
-}
-
-#[derive(Clone, Copy)]
-pub enum SequenceStep {
-    Ask(Job, Sequence),
-    Done(Word),
 }
 
 fn bit(mask: u32, on: bool) -> u32
@@ -100,12 +83,17 @@ impl KrPlace {
 }
 
 impl Sequence {
-    fn begin(port: Port, place: KrPlace, first: MaybeWord) -> SequenceStep
+    #[tactic(auto, using(hardware::proofs::Laws::then_assoc))]
+    fn begin(
+        port: Port,
+        place: KrPlace,
+        first: Option<u32>,
+    ) -> Step<Job, Sequence, Result<u32, Error>>
         ensures { (b : List ℕ) → told_sequence port b result ≡ sequence_at port place first }
     {
         let job = KrModify::first(place.change(), port);
         let modify = KrModify::Reading;
-        SequenceStep::Ask(
+        Step::Ask(
             job,
             Sequence {
                 place,
@@ -116,48 +104,49 @@ impl Sequence {
     }
 
     // What comes after it, with the first value written.
-    fn then(port: Port, place: KrPlace, first: u32) -> SequenceStep
+    fn then(port: Port, place: KrPlace, first: u32) -> Step<Job, Sequence, Result<u32, Error>>
         ensures { (b : List ℕ) → told_sequence port b result ≡ sequence_then port place first }
     {
         let family = port.family;
         match place {
             KrPlace::Advertise(_, _) => match family {
-                Family::X552 => Sequence::begin(port, KrPlace::Restart, MaybeWord::Is(first)),
-                Family::X553 => Sequence::begin(port, KrPlace::Lane, MaybeWord::Is(first)),
+                Family::X552 => Sequence::begin(port, KrPlace::Restart, Some(first)),
+                Family::X553 => Sequence::begin(port, KrPlace::Lane, Some(first)),
             },
-            KrPlace::Lane => Sequence::begin(port, KrPlace::Restart, MaybeWord::Is(first)),
-            KrPlace::Force(_) => Sequence::begin(port, KrPlace::Train, MaybeWord::Is(first)),
-            KrPlace::Train => Sequence::begin(port, KrPlace::Ffe4, MaybeWord::Is(first)),
-            KrPlace::Ffe4 => Sequence::begin(port, KrPlace::Ffe5, MaybeWord::Is(first)),
-            KrPlace::Ffe5 => Sequence::begin(port, KrPlace::Coeff, MaybeWord::Is(first)),
-            KrPlace::Coeff => Sequence::begin(port, KrPlace::Restart, MaybeWord::Is(first)),
+            KrPlace::Lane => Sequence::begin(port, KrPlace::Restart, Some(first)),
+            KrPlace::Force(_) => Sequence::begin(port, KrPlace::Train, Some(first)),
+            KrPlace::Train => Sequence::begin(port, KrPlace::Ffe4, Some(first)),
+            KrPlace::Ffe4 => Sequence::begin(port, KrPlace::Ffe5, Some(first)),
+            KrPlace::Ffe5 => Sequence::begin(port, KrPlace::Coeff, Some(first)),
+            KrPlace::Coeff => Sequence::begin(port, KrPlace::Restart, Some(first)),
             KrPlace::Restart => match family {
-                Family::X552 => SequenceStep::Done(Word::Ok(first)),
-                Family::X553 => Sequence::begin(port, KrPlace::RestartLane, MaybeWord::Is(first)),
+                Family::X552 => Step::Done(Ok(first)),
+                Family::X553 => Sequence::begin(port, KrPlace::RestartLane, Some(first)),
             },
-            KrPlace::RestartLane => SequenceStep::Done(Word::Ok(first)),
+            KrPlace::RestartLane => Step::Done(Ok(first)),
         }
     }
 
-    fn first_of(first: MaybeWord, value: u32) -> u32
+    fn first_of(first: Option<u32>, value: u32) -> u32
         ensures { first_of first value ≡ result }
     {
         match first {
-            MaybeWord::Nothing => value,
-            MaybeWord::Is(written) => written,
+            None => value,
+            Some(written) => written,
         }
     }
 
+    #[tactic(auto, using(hardware::proofs::Laws::then_assoc))]
     fn after_modify(
         port: Port,
         place: KrPlace,
-        first: MaybeWord,
-        step: KrModifyStep,
-    ) -> SequenceStep
+        first: Option<u32>,
+        step: Step<Job, KrModify, Result<u32, Error>>,
+    ) -> Step<Job, Sequence, Result<u32, Error>>
         ensures { (b : List ℕ) → told_sequence port b result ≡ sequence_after port place first (told_modify port (change_of place) b step) }
     {
         match step {
-            KrModifyStep::Ask(job, modify) => SequenceStep::Ask(
+            Step::Ask(job, modify) => Step::Ask(
                 job,
                 Sequence {
                     place,
@@ -165,22 +154,24 @@ impl Sequence {
                     modify,
                 },
             ),
-            KrModifyStep::Done(r) => match r {
-                Word::Err(e) => SequenceStep::Done(Word::Err(e)),
-                Word::Ok(value) => Sequence::then(port, place, Sequence::first_of(first, value)),
-            },
+            Step::Done(Err(e)) => Step::Done(Err(e)),
+            Step::Done(Ok(value)) => Sequence::then(port, place, Sequence::first_of(first, value)),
         }
     }
 
     // From this place on.
-    pub fn start(place: KrPlace, port: Port) -> SequenceStep
+    pub fn start(place: KrPlace, port: Port) -> Step<Job, Sequence, Result<u32, Error>>
         ensures { (b : List ℕ) → told_sequence port b result ≡ sequence_of port place }
     {
-        Sequence::begin(port, place, MaybeWord::Nothing)
+        Sequence::begin(port, place, None)
     }
 
-    pub fn next(self, port: Port, got: Word) -> SequenceStep
-        ensures { (b : List ℕ) → told_sequence port b result ≡ resume_sequence port self (word_of got) }
+    pub fn next(
+        self,
+        port: Port,
+        got: Result<u32, Error>,
+    ) -> Step<Job, Sequence, Result<u32, Error>>
+        ensures { (b : List ℕ) → told_sequence port b result ≡ resume_sequence port self got }
     {
         let place = self.place;
         let first = self.first;

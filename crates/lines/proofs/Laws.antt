@@ -6,23 +6,21 @@ use mathlib.Core.List.{List}
 use native.Mathlib.Omega.{arith}
 use lib.ListN.{length}
 use lib.Seq.{slice, take-length}
+use Rattle.std.proofs.Common.{Option, Some}
 use Rattle.text.specs.Hex.{hex_word, hex_part}
 use Rattle.text.specs.Same.{same, is_part}
 use Rattle.text.specs.Words.{Inside}
-use Rattle.text.specs.declared.Number.{Number}
-use Rattle.text.specs.declared.Span.{Span}
-use Rattle.text.specs.declared.Span.TheVariants.{Word}
 use Rattle.text.proofs.PartLaws.{hex_in, is_in}
 
-module _ (at : ℕ) (line : List ℕ) (r : Span) {start end : ℕ} (inside : Inside at line r) (e : r ≡ Word start end) where
-  pub place : Inside at line (Word start end)
+module _ (at : ℕ) (line : List ℕ) (r : Option (ℕ × ℕ)) {start end : ℕ} (inside : Inside at line r) (e : r ≡ Some (start, end)) where
+  pub place : Inside at line (Some (start, end))
   place = rw e at inside
 
-  pub found_hex : (fewest most : ℕ) {x : Number} → hex_part line start end fewest most ≡ x → hex_word fewest most (slice start end line) ≡ x
-  found_hex fewest most h = let p : Inside at line (Word start end) = place in sym (hex_in line start end (omega arith) (omega arith) _ _) ∙ h
+  pub found_hex : (fewest most : ℕ) {x : Option ℕ} → hex_part line start end fewest most ≡ x → hex_word fewest most (slice start end line) ≡ x
+  found_hex fewest most h = let p : Inside at line (Some (start, end)) = place in sym (hex_in line start end (omega arith) (omega arith) _ _) ∙ h
 
   pub found_is : (name : List ℕ) {b : Bool} → is_part line start end name ≡ b → same (slice start end line) name ≡ b
-  found_is name h = let p : Inside at line (Word start end) = place in sym (is_in line start end (omega arith) (omega arith) _) ∙ h
+  found_is name h = let p : Inside at line (Some (start, end)) = place in sym (is_in line start end (omega arith) (omega arith) _) ∙ h
 
 pub whole_is : (l name : List ℕ) {b : Bool} → is_part l 0 (length l) name ≡ b → same l name ≡ b
 whole_is l name h =

@@ -3,42 +3,34 @@ use Prim.Native.Nat.{ℕ, zero, suc, ◌+◌, ◌*◌, ◌≤◌, ◌<◌}
 use mathlib.Core.Path.{◌≡◌, refl, ap, ap₂, sym, ◌∙◌}
 use mathlib.Core.List.{List, [], ◌∷◌, ◌++◌, append_assoc, append-nil}
 use native.Mathlib.Omega.{arith}
-use native.Mathlib.Nat.{add-zero}
 use native.Mathlib.Numerals.{add-one}
-use lib.ListN.{length, get_or, set, take, drop, length-append, length-take}
+use lib.ListN.{length, get_or, take, drop, length-append}
 use lib.Seq.{sets, length-sets, sets-eq, take-suc, take_all, take-append_seam}
+use Rattle.std.proofs.Common.{Option, Some, None}
+use Rattle.std.specs.Option.{unwrap_or}
 use Rattle.text.specs.Written.{written}
-use Rattle.text.specs.declared.Written.{Written}
-use Rattle.text.specs.declared.Written.TheVariants.{To, Full}
-use Rattle.text.proofs.PutLaws.{written_fits}
+use Rattle.text.proofs.PutLaws.{written_fits, sets_append}
 use Rattle.lines.specs.Listing.{Added, action_text, lines_text, field_text, words_text}
 
-module _ (out : List ℕ) (at : ℕ) (bytes : List ℕ) {r : Written} {new : List ℕ} (fits : at + length bytes ≤ length out)
+module _ (out : List ℕ) (at : ℕ) (bytes : List ℕ) {r : Option ℕ} {new : List ℕ} (fits : at + length bytes ≤ length out)
     (e : written out at bytes ≡ (r, new)) where
-  both : ◌≡◌ {A = Written × List ℕ} (To (at + length bytes), sets out at bytes) (r, new)
+  both : ◌≡◌ {A = Option ℕ × List ℕ} (Some (at + length bytes), sets out at bytes) (r, new)
   both = sym (written_fits out at bytes fits) ∙ e
 
-  pub added_to : {end : ℕ} → r ≡ To end → Added out at bytes end new
-  added_to {end} h =
-      let to : To (at + length bytes) ≡ To end = ap (λ (p : Written × List ℕ). p.0) both ∙ h in
-      record { place = (cc); stored = sym (ap (λ (p : Written × List ℕ). p.1) both) }
+  pub added_or : (n : ℕ) {end : ℕ} → end ≡ unwrap_or r n → Added out at bytes end new
+  added_or n {end} h =
+      let place : at + length bytes ≡ end = ap (λ (p : Option ℕ × List ℕ). unwrap_or p.0 n) both ∙ sym h in
+      record { place = sym place; stored = sym (ap (λ (p : Option ℕ × List ℕ). p.1) both) }
 
-  pub never_full : {A : Type 0} → r ≡ Full → A
+  pub never_full : {A : Type 0} → r ≡ None → A
   never_full h =
-      let full : To (at + length bytes) ≡ Full = ap (λ (p : Written × List ℕ). p.0) both ∙ h in
-      let z : ◌≡◌ {A = ℕ} 0 1 = cc in absurd (omega arith)
-
-sets_on : (xs ys l : List ℕ) (i : ℕ) → sets (sets l i xs) (i + length xs) ys ≡ sets l i (xs ++ ys)
-sets_on [] ys l i = ap (λ (n : ℕ). sets l n ys) (add-zero i)
-sets_on (x ∷ xs) ys l i =
-    ap (λ (n : ℕ). sets (sets (set l i x) (suc i) xs) n ys) (let e : i + suc (length xs) ≡ suc i + length xs = omega arith in e)
-    ∙ sets_on xs ys (set l i x) (suc i)
+      let full : Some (at + length bytes) ≡ None = ap (λ (p : Option ℕ × List ℕ). p.0) both ∙ h in cc
 
 pub added_on : {old mid new xs ys : List ℕ} {at m n : ℕ} → Added old at xs m mid → Added mid m ys n new → Added old at (xs ++ ys) n new
 added_on {old} {mid} {new} {xs} {ys} {at} {m} {n} a b =
     record {
       place = omega (arith, length-append xs ys, a.place, b.place);
-      stored = b.stored ∙ ap₂ (λ (l : List ℕ) (i : ℕ). sets l i ys) a.stored a.place ∙ sets_on xs ys old at;
+      stored = b.stored ∙ ap₂ (λ (l : List ℕ) (i : ℕ). sets l i ys) a.stored a.place ∙ sets_append xs ys old at;
     }
 
 pub added_length : {old new bytes : List ℕ} {at end : ℕ} → Added old at bytes end new → length new ≡ length old
@@ -58,23 +50,6 @@ words_more l i h =
 
 pub words_all : (l : List ℕ) (i : ℕ) → length l ≤ i → words_text (take i l) ≡ words_text l
 words_all l i h = ap words_text (take_all i l h)
-
--- the part that is as long as what is shown is what is shown
-pub front : (ws : List ℕ) (n : ℕ) → take (length (take n ws)) ws ≡ take n ws
-front [] zero = refl
-front [] (suc n) = refl
-front (w ∷ ws) zero = refl
-front (w ∷ ws) (suc n) = ap (λ (l : List ℕ). w ∷ l) (front ws n)
-
-module _ (ws : List ℕ) (n k : ℕ) (shown : length (take n ws) ≡ k) where
-  pub front_within : k ≤ length ws
-  front_within = rw (← shown, length-take n ws) (omega arith)
-
-  pub front_same : take k ws ≡ take n ws
-  front_same = rw (← shown) (front ws n)
-
-  pub front_length : k ≡ length (take k ws)
-  front_length = rw front_same (sym shown)
 
 -- what was written from the start of a buffer
 pub added_whole : {old new bytes : List ℕ} {len : ℕ} → Added old 0 bytes len new → len ≤ length old → take len new ≡ bytes

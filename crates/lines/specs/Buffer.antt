@@ -1,11 +1,9 @@
 -- Lines out of a buffer that is filled piece by piece
-use Rattle.std.specs.Prelude.{ℕ, ◌+◌, ◌-◌, Bool, List, ◌++◌, leb, length, drop}
+use Rattle.std.specs.Prelude.{ℕ, ◌+◌, ◌-◌, Bool, List, ◌++◌, leb, length, drop, Option, Some, None}
 use Rattle.std.proofs.Math.Seq.{slice}
 use Rattle.hardware.specs.Talk.{pick}
 use Rattle.text.specs.Lines.{line_end, bare}
 use Rattle.text.specs.Parts.{has_part}
-use Rattle.text.specs.declared.Found.{Found}
-use Rattle.text.specs.declared.Found.TheVariants as found
 use Rattle.lines.specs.declared.buffer.Seen.{Seen}
 use Rattle.lines.specs.declared.buffer.Seen.TheVariants.{Line, More, Ended}
 
@@ -17,9 +15,9 @@ line_from buf from end next = Line from (from + length (bare (slice from end buf
 abbrev pub rest_at : List ℕ → ℕ → Seen
 rest_at buf from = pick (leb (length buf) from) Ended (line_from buf from (length buf) (length buf))
 
-abbrev pub seen : List ℕ → ℕ → Bool → Found → Seen
-seen buf from ended (found.At e) = line_from buf from e (e + 1)
-seen buf from ended found.Nothing = pick ended (rest_at buf from) More
+abbrev pub seen : List ℕ → ℕ → Bool → Option ℕ → Seen
+seen buf from ended (Some e) = line_from buf from e (e + 1)
+seen buf from ended None = pick ended (rest_at buf from) More
 
 abbrev pub look_at : List ℕ → ℕ → Bool → Seen
 look_at buf from ended = seen buf from ended (line_end buf from)

@@ -1,11 +1,10 @@
 -- The listing's lines as text
-use Rattle.std.specs.Prelude.{ℕ, ◌+◌, ◌≡◌, List, [], ◌∷◌, ◌++◌, eqb, length}
+use Rattle.std.specs.Prelude.{ℕ, ◌+◌, ◌≡◌, List, [], ◌∷◌, ◌++◌, eqb, length, Ok, Err}
 use Rattle.std.proofs.lemmas.List.Edits.{sets}
-use Rattle.hardware.specs.Talk.{pick}
+use Rattle.hardware.specs.Talk.{pick, Res}
 use Rattle.hardware.specs.Numbers.{number, values}
 use Rattle.answers.specs.Fields.{fields}
-use Rattle.answers.specs.declared.Answer.{Answer}
-use Rattle.answers.specs.declared.Answer.TheVariants as answer
+use Rattle.answers.specs.declared.Value.{Value}
 use Rattle.text.specs.Digits.{hex_digits, decimal_digits}
 
 -- bytes were written to a buffer at a place, and nothing else was changed
@@ -61,9 +60,9 @@ no_text number fields actions micros =
     (101 ∷ 110 ∷ 100 ∷ 32 ∷ 110 ∷ 111 ∷ 32 ∷ []) ++ decimal_digits number ++ words_text fields ++ counts_text actions micros
 
 -- a conversation that has ended, with its host block as it is then
-abbrev pub end_text : Answer → List ℕ → ℕ → ℕ → List ℕ
-end_text (answer.Ok v) block actions micros = ok_text (fields v block) actions micros
-end_text (answer.Err e) block actions micros = no_text (number e) (values e) actions micros
+abbrev pub end_text : Res Value → List ℕ → ℕ → ℕ → List ℕ
+end_text (Ok v) block actions micros = ok_text (fields v block) actions micros
+end_text (Err e) block actions micros = no_text (number e) (values e) actions micros
 
 -- 25 and 26, where the listing stops before the end, have no field
 abbrev pub stop_text : ℕ → ℕ → ℕ → List ℕ

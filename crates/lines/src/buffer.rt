@@ -2,7 +2,7 @@
 ghost use Rattle.std.specs.Prelude.{◌≡◌};
 ghost use Rattle.lines.specs.Buffer.{look_at, rest_at, moved};
 
-use text::{Found, line_end, line_length};
+use text::{line_end, line_length};
 
 // What is in the buffer from a place on.
 #[derive(Clone, Copy)]
@@ -41,31 +41,24 @@ pub fn look(buf: &[u8], from: usize, ended: bool) -> Seen
     ensures { look_at buf.now from ended ≡ result }
 {
     match line_end(buf, from) {
-        Found::At(e) => Seen::Line {
+        Some(e) => Seen::Line {
             start: from,
             end: from + line_length(&buf[from..e]),
             next: e + 1,
         },
-        Found::Nothing => { if ended { rest(buf, from) } else { Seen::More } }
+        None if ended => rest(buf, from),
+        None => Seen::More,
     }
 }
 
 // Moves what is not used yet to the front, so that there is room behind it, and says how much it is.
-#[tactic(auto, using(text::proofs::PartLaws::part_slice, crate::proofs::BufferLaws::shift_one))]
+#[tactic(auto, using(crate::proofs::BufferLaws::moved_front))]
 pub fn to_front(buf: &mut [u8], from: usize, to: usize) -> usize
     ensures { moved buf.old from to ≡ (result, buf.new) }
 {
-    if from > to {
+    if from > to || to > buf.len() {
         return 0;
     }
-    if to > buf.len() {
-        return 0;
-    }
-    let n = to - from;
-    let mut i: usize = 0;
-    while i < n {
-        buf[i] = buf[from + i];
-        i += 1;
-    }
-    n
+    buf.copy_within(from..to, 0);
+    to - from
 }

@@ -1,7 +1,6 @@
 // The listing's lines. Each is written from the start of a buffer that has room for the longest.
 ghost use Rattle.std.specs.Prelude.{◌≡◌, ◌+◌, ◌*◌, ◌≤◌, length, take};
 ghost use Rattle.answers.specs.Fields.{fields};
-ghost use Rattle.answers.specs.Shown.{shown};
 ghost use Rattle.text.specs.Digits.{hex_digits, decimal_digits};
 ghost use Rattle.lines.specs.Listing.{
   Added,
@@ -19,47 +18,35 @@ ghost use Rattle.lines.specs.Listing.{
   left_text,
 };
 
+use answers::Value;
 use answers::fields::{Fields, block_words, error_fields, error_number, fields_of};
-use answers::{Answer, Value};
-use text::{Written, put, put_decimal, put_hex};
+use hardware::Error;
+use text::{put, put_decimal, put_hex};
 
 // Bytes at a place that has room for them.
-#[tactic(auto, using(crate::proofs::ListingLaws::added_to, crate::proofs::ListingLaws::never_full))]
 fn add(out: &mut [u8; 512], at: usize, bytes: &[u8]) -> usize
     requires { at + length bytes.now ≤ 512 }
     ensures { Added out.old at bytes.now result out.new }
 {
-    match put(out, at, bytes) {
-        Written::To(end) => end,
-        Written::Full => at,
-    }
+    put(out, at, bytes).unwrap_or(at)
 }
 
-#[tactic(auto, using(text::proofs::Back::length_last_hex, crate::proofs::ListingLaws::added_to, crate::proofs::ListingLaws::never_full))]
 fn add_hex(out: &mut [u8; 512], at: usize, v: u32) -> usize
     requires { at + 8 ≤ 512 }
     ensures added { Added out.old at (hex_digits v) result out.new }
     ensures value { result ≡ at + 8 }
 {
-    match put_hex(out, at, v) {
-        Written::To(end) => end,
-        Written::Full => at,
-    }
+    put_hex(out, at, v).unwrap_or(at)
 }
 
-#[tactic(auto, using(text::proofs::Back::length_decimal, crate::proofs::ListingLaws::added_to, crate::proofs::ListingLaws::never_full))]
 fn add_decimal(out: &mut [u8; 512], at: usize, v: u64) -> usize
     requires { at + 20 ≤ 512 }
     ensures added { Added out.old at (decimal_digits v) result out.new }
     ensures upper_bound { result ≤ at + 20 }
 {
-    match put_decimal(out, at, v) {
-        Written::To(end) => end,
-        Written::Full => at,
-    }
+    put_decimal(out, at, v).unwrap_or(at)
 }
 
-#[tactic(auto, using(crate::proofs::ListingLaws::added_on))]
 fn read_line(register: u32, out: &mut [u8; 512]) -> usize
     ensures added { Added out.old 0 (read_text register) result out.new }
     ensures upper_bound { result ≤ 512 }
@@ -69,7 +56,6 @@ fn read_line(register: u32, out: &mut [u8; 512]) -> usize
     add(out, b, b"\n")
 }
 
-#[tactic(auto, using(crate::proofs::ListingLaws::added_on))]
 fn write_line(register: u32, value: u32, out: &mut [u8; 512]) -> usize
     ensures added { Added out.old 0 (write_text register value) result out.new }
     ensures upper_bound { result ≤ 512 }
@@ -81,7 +67,6 @@ fn write_line(register: u32, value: u32, out: &mut [u8; 512]) -> usize
     add(out, d, b"\n")
 }
 
-#[tactic(auto, using(crate::proofs::ListingLaws::added_on))]
 fn wait_line(micros: u32, out: &mut [u8; 512]) -> usize
     ensures added { Added out.old 0 (wait_text micros) result out.new }
     ensures upper_bound { result ≤ 512 }
@@ -91,23 +76,20 @@ fn wait_line(micros: u32, out: &mut [u8; 512]) -> usize
     add(out, b, b"\n")
 }
 
-// An action's line, by its three words in the transcript.
+// An action's line, by its three words in the transcript, where C has the kind as a number.
 #[tactic(auto, unfolding(crate::specs::Listing::action_text))]
 pub fn action_line(kind: u32, register: u32, value: u32, out: &mut [u8; 512]) -> usize
     ensures added { Added out.old 0 (action_text kind register value) result out.new }
     ensures upper_bound { result ≤ 512 }
 {
-    if kind == 1 {
-        return read_line(register, out);
+    match kind {
+        1 => read_line(register, out),
+        2 => write_line(register, value, out),
+        _ => wait_line(value, out),
     }
-    if kind == 2 {
-        return write_line(register, value, out);
-    }
-    wait_line(value, out)
 }
 
 // The counts that close the last line.
-#[tactic(auto, using(crate::proofs::ListingLaws::added_on))]
 fn add_counts(out: &mut [u8; 512], at: usize, actions: u64, micros: u64) -> usize
     requires { at + 58 ≤ 512 }
     ensures added { Added out.old at (counts_text actions micros) result out.new }
@@ -121,7 +103,6 @@ fn add_counts(out: &mut [u8; 512], at: usize, actions: u64, micros: u64) -> usiz
 }
 
 // A blank and a field.
-#[tactic(auto, using(crate::proofs::ListingLaws::added_on))]
 fn add_field(out: &mut [u8; 512], at: usize, field: u32) -> usize
     requires { at + 9 ≤ 512 }
     ensures added { Added out.old at (field_text field) result out.new }
@@ -131,31 +112,26 @@ fn add_field(out: &mut [u8; 512], at: usize, field: u32) -> usize
     add_hex(out, a, field)
 }
 
-#[tactic(auto, using(crate::proofs::ListingLaws::added_on, crate::proofs::ListingLaws::added_none, crate::proofs::ListingLaws::words_more, crate::proofs::ListingLaws::words_all))]
+#[tactic(auto, using(crate::proofs::ListingLaws::added_none, crate::proofs::ListingLaws::words_all))]
 fn add_fields(out: &mut [u8; 512], at: usize, fields: &[u32]) -> usize
     requires { at + 9 * length fields.now ≤ 512 }
     ensures added { Added out.old at (words_text fields.now) result out.new }
     ensures value { result ≡ at + 9 * length fields.now }
 {
     let mut end = at;
-    let mut i: usize = 0;
-    while i < fields.len() {
-        end = add_field(out, end, fields[i]);
-        i += 1;
+    for field in fields {
+        end = add_field(out, end, *field);
     }
     end
 }
 
 // An answer's own words: twelve at the most.
-#[tactic(auto, using(crate::proofs::ListingLaws::front_within, crate::proofs::ListingLaws::front_same, crate::proofs::ListingLaws::front_length))]
 fn add_shown(out: &mut [u8; 512], at: usize, fields: Fields) -> usize
     requires { at + 108 ≤ 512 }
-    ensures added { Added out.old at (words_text (shown fields)) result out.new }
+    ensures added { Added out.old at (words_text fields) result out.new }
     ensures upper_bound { result ≤ at + 108 }
 {
-    let n = fields.count();
-    let words = fields.words;
-    add_fields(out, at, &words[..n])
+    add_fields(out, at, fields.as_slice())
 }
 
 // The first words of the host block.
@@ -171,7 +147,6 @@ fn add_block(out: &mut [u8; 512], at: usize, block: [u32; 16], n: u32) -> usize
     add_fields(out, at, &block)
 }
 
-#[tactic(auto, using(crate::proofs::ListingLaws::added_on, crate::proofs::ListingLaws::words_append))]
 fn ok_line(v: Value, block: [u32; 16], actions: u64, micros: u64, out: &mut [u8; 512]) -> usize
     ensures added { Added out.old 0 (ok_text (fields v block) actions micros) result out.new }
     ensures upper_bound { result ≤ 512 }
@@ -182,9 +157,8 @@ fn ok_line(v: Value, block: [u32; 16], actions: u64, micros: u64, out: &mut [u8;
     add_counts(out, c, actions, micros)
 }
 
-#[tactic(auto, using(crate::proofs::ListingLaws::added_on))]
 fn no_line(number: u32, fields: Fields, actions: u64, micros: u64, out: &mut [u8; 512]) -> usize
-    ensures added { Added out.old 0 (no_text number (shown fields) actions micros) result out.new }
+    ensures added { Added out.old 0 (no_text number fields actions micros) result out.new }
     ensures upper_bound { result ≤ 512 }
 {
     let a = add(out, 0, b"end no ");
@@ -195,7 +169,7 @@ fn no_line(number: u32, fields: Fields, actions: u64, micros: u64, out: &mut [u8
 
 // The last line of a conversation that has ended.
 pub fn end_line(
-    answer: Answer,
+    answer: Result<Value, Error>,
     block: [u32; 16],
     actions: u64,
     micros: u64,
@@ -205,13 +179,12 @@ pub fn end_line(
     ensures upper_bound { result ≤ 512 }
 {
     match answer {
-        Answer::Ok(v) => ok_line(v, block, actions, micros, out),
-        Answer::Err(e) => no_line(error_number(e), error_fields(e), actions, micros, out),
+        Ok(v) => ok_line(v, block, actions, micros, out),
+        Err(e) => no_line(error_number(e), error_fields(e), actions, micros, out),
     }
 }
 
 // The last line where the listing stops before the end: number and counts, with no other field.
-#[tactic(auto, using(crate::proofs::ListingLaws::added_on))]
 pub fn stop_line(number: u32, actions: u64, micros: u64, out: &mut [u8; 512]) -> usize
     ensures added { Added out.old 0 (stop_text number actions micros) result out.new }
     ensures upper_bound { result ≤ 512 }
@@ -222,7 +195,6 @@ pub fn stop_line(number: u32, actions: u64, micros: u64, out: &mut [u8; 512]) ->
 }
 
 // The words that a `command` leaves in its host block.
-#[tactic(auto, using(crate::proofs::ListingLaws::added_on))]
 pub fn left_line(block: [u32; 16], words: u32, out: &mut [u8; 512]) -> usize
     ensures added { Added out.old 0 (left_text (take words block)) result out.new }
     ensures upper_bound { result ≤ 512 }

@@ -4,74 +4,56 @@ ghost use Rattle.text.specs.Words.{words};
 ghost use Rattle.lines.specs.Port.{lan_of, device_of, family_of, port_of};
 
 use hardware::{Family, Port};
-use text::{Number, Span, hex, is, word};
-
-#[derive(Clone, Copy)]
-pub enum PortLine {
-    Is(Port),
-    Bad,
-}
+use text::{hex, is, word};
 
 // The last word. A lan of any size is read: `begin` refuses one above 1.
 #[tactic(auto, using(crate::proofs::Laws::found_hex))]
-fn lan_at(line: &[u8], at: usize, family: Family, device: u16) -> PortLine
+fn lan_at(line: &[u8], at: usize, family: Family, device: u16) -> Option<Port>
     ensures { lan_of family device (words (drop at line.now)) ≡ result }
 {
-    let Span::Word(start, end) = word(line, at) else {
-        return PortLine::Bad;
-    };
-    if let Span::Word(_, _) = word(line, end) {
-        return PortLine::Bad;
+    let (start, end) = word(line, at)?;
+    if word(line, end).is_some() {
+        return None;
     }
-    match hex(line, start, end, 1, 8) {
-        Number::Is(lan) => PortLine::Is(Port {
-            family,
-            device,
-            lan,
-        }),
-        Number::Nothing => PortLine::Bad,
-    }
+    let lan = hex(line, start, end, 1, 8)?;
+    Some(Port {
+        family,
+        device,
+        lan,
+    })
 }
 
-#[tactic(auto, using(text::proofs::HexBound::hex_below, crate::proofs::Laws::found_hex))]
-fn device_at(line: &[u8], at: usize, family: Family) -> PortLine
+#[tactic(auto, using(crate::proofs::Laws::found_hex))]
+fn device_at(line: &[u8], at: usize, family: Family) -> Option<Port>
     ensures { device_of family (words (drop at line.now)) ≡ result }
 {
-    let Span::Word(start, end) = word(line, at) else {
-        return PortLine::Bad;
-    };
-    match hex(line, start, end, 4, 4) {
-        Number::Is(device) => lan_at(line, end, family, device as u16),
-        Number::Nothing => PortLine::Bad,
-    }
+    let (start, end) = word(line, at)?;
+    let device = hex(line, start, end, 4, 4)?;
+    lan_at(line, end, family, device as u16)
 }
 
 #[tactic(auto, using(crate::proofs::Laws::found_is))]
-fn family_at(line: &[u8], at: usize) -> PortLine
+fn family_at(line: &[u8], at: usize) -> Option<Port>
     ensures { family_of (words (drop at line.now)) ≡ result }
 {
-    let Span::Word(start, end) = word(line, at) else {
-        return PortLine::Bad;
-    };
+    let (start, end) = word(line, at)?;
     if is(line, start, end, b"X552") {
         return device_at(line, end, Family::X552);
     }
     if is(line, start, end, b"X553") {
         return device_at(line, end, Family::X553);
     }
-    PortLine::Bad
+    None
 }
 
 #[tactic(auto, using(crate::proofs::Laws::found_is))]
-pub fn port_line(line: &[u8]) -> PortLine
+pub fn port_line(line: &[u8]) -> Option<Port>
     ensures { port_of (words line.now) ≡ result }
 {
-    let Span::Word(start, end) = word(line, 0) else {
-        return PortLine::Bad;
-    };
+    let (start, end) = word(line, 0)?;
     if is(line, start, end, b"port") {
         family_at(line, end)
     } else {
-        PortLine::Bad
+        None
     }
 }

@@ -1,8 +1,8 @@
 -- The commands that read_reg and write_reg write to MSCA are the public document's words for their fields
+use Rattle.hardware.specs.Talk.{Call, ◌>>=◌, ◌>>◌, read_raw, write, return}
 use Prim.Native.Nat.{ℕ, ◌/◌, ◌^◌, ◌<◌}
 use mathlib.Core.Bool.{true}
 use mathlib.Core.Path.{◌≡◌, ap₂}
-use Rattle.hardware.specs.Talk.{Call, ◌>>=◌, ◌>>◌, read_raw, write, return}
 use Rattle.words.specs.Mdio.{address, address_cycle, read_cycle, write_cycle}
 use Rattle.words.specs.Mdio as document
 use Rattle.words.proofs.Theorems.Mdio.{address_cycle_document, read_cycle_document, write_cycle_document}

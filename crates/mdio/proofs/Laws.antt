@@ -1,8 +1,8 @@
 -- write_reg's closure, regrouped as the machine goes through it
+use Rattle.hardware.specs.Talk.{Call, ◌>>◌, write, return}
 use Prim.Native.Nat.{ℕ}
 use mathlib.Core.Path.{◌≡◌, ap, ◌∙◌}
 use lib.Bits.{bit_or}
-use Rattle.hardware.specs.Talk.{Call, ◌>>◌, write, return}
 use Rattle.words.specs.Mdio.{OP-WRITE}
 use Rattle.reference.specs.Mdio.{cycle}
 use Rattle.reference.proofs.Laws.{bind_assoc}

@@ -1,13 +1,12 @@
 -- What a suspended cycle still says
+use Rattle.hardware.specs.Told.{told}
+use Rattle.hardware.specs.declared.Action.{Action}
+use Rattle.hardware.specs.declared.Step.{Step}
+use Rattle.hardware.specs.Talk.{Call, end, ◌>>=◌, ◌>>◌, read, pick, return, is_clear, checked, done, Reply, Res}
 use Rattle.std.specs.Prelude.{ℕ}
-use Rattle.hardware.specs.Talk.{Call, ask, end, ◌>>=◌, ◌>>◌, read, pick, return, is_clear, checked, done}
-use Rattle.hardware.specs.Told.{unit_of}
-use Rattle.hardware.specs.declared.Reply.{Reply}
 use Rattle.reference.specs.Mdio.{cycle_times}
 use Rattle.mdio.specs.declared.cycle.Cycle.{Cycle}
 use Rattle.mdio.specs.declared.cycle.Cycle.TheVariants as cycle
-use Rattle.mdio.specs.declared.cycle.CycleStep.{CycleStep}
-use Rattle.mdio.specs.declared.cycle.CycleStep.TheVariants as cyclestep
 
 -- with what MSCA gave
 abbrev pub cycle_read : ℕ → Call ℕ → Call (Unit {0})
@@ -21,6 +20,5 @@ resume_cycle cycle.Starting r = end (done r) >> cycle_times 100 0
 resume_cycle (cycle.Waiting n) r = cycle_read n (read 0x425c)
 resume_cycle (cycle.Reading n) r = cycle_read n (end (checked r))
 
-abbrev pub told_cycle : CycleStep → Call (Unit {0})
-told_cycle (cyclestep.Ask a s) = ask a (λ r. resume_cycle s r)
-told_cycle (cyclestep.Done r) = end (unit_of r)
+abbrev pub told_cycle : Step Action Cycle (Res (Unit {0})) → Call (Unit {0})
+told_cycle = told resume_cycle

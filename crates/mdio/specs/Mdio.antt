@@ -1,9 +1,10 @@
 -- What the suspended closure of a `read_reg` or `write_reg` still says
+use Rattle.hardware.specs.Told.{told}
+use Rattle.hardware.specs.declared.Action.{Action}
+use Rattle.hardware.specs.declared.Step.{Step}
+use Rattle.hardware.specs.Talk.{Call, end, ◌>>=◌, ◌>>◌, read_raw, return, raw, done, Reply, Res}
 use Rattle.std.specs.Prelude.{ℕ, ◌/◌, ◌^◌}
 use Rattle.std.specs.Int.Bits.{bit_or}
-use Rattle.hardware.specs.Talk.{Call, ask, end, ◌>>=◌, ◌>>◌, read_raw, return, raw, done}
-use Rattle.hardware.specs.Told.{word_of}
-use Rattle.hardware.specs.declared.Reply.{Reply}
 use Rattle.words.specs.Mdio.{OP-READ, OP-WRITE}
 use Rattle.reference.specs.Mdio.{cycle, read_body, write_body}
 use Rattle.mdio.specs.Cycle.{resume_cycle}
@@ -13,8 +14,6 @@ use Rattle.mdio.specs.declared.mdio.MdioPlace.{MdioPlace}
 use Rattle.mdio.specs.declared.mdio.MdioPlace.TheVariants as place
 use Rattle.mdio.specs.declared.mdio.Mdio.{Mdio}
 use Rattle.mdio.specs.declared.mdio.Mdio.TheVariants as mdio
-use Rattle.mdio.specs.declared.mdio.MdioStep.{MdioStep}
-use Rattle.mdio.specs.declared.mdio.MdioStep.TheVariants as mdiostep
 
 -- the closure that it is; a write gives 0
 abbrev pub body_of : Wanted → Call ℕ
@@ -65,6 +64,5 @@ resume_mdio w mdio.Data r =
       v ← end (raw r)
       return (v / 2 ^ 16)
 
-abbrev pub told_mdio : Wanted → MdioStep → Call ℕ
-told_mdio w (mdiostep.Ask a s) = ask a (λ r. resume_mdio w s r)
-told_mdio w (mdiostep.Done r) = end (word_of r)
+abbrev pub told_mdio : Wanted → Step Action Mdio (Res ℕ) → Call ℕ
+told_mdio w = told (resume_mdio w)

@@ -1,4 +1,6 @@
 -- An access done whole and alone is the table's step
+use Rattle.std.specs.Prelude.{Ok}
+use Rattle.hardware.specs.Talk.{Talk, Call, Res, end, ask, and_then, or_stop, ◌>>=◌, ◌>>◌, times, pick, is_clear, fail, return, raw, read_raw, write, Reply}
 use Prim.Native.Nat.{ℕ, zero, suc, ◌+◌, ◌*◌, ◌/◌, ◌%◌, ◌^◌, ◌<◌, min}
 use native.Mathlib.Omega.{arith}
 use native.Mathlib.Nat.{pow-suc}
@@ -9,34 +11,12 @@ use lib.Bits.{bit_and, and_step, and_shr, and_zero_r, or_zero_r}
 use lib.Dec.{eqb, lit<}
 use Rattle.hardware.specs.Bits.{bit, without}
 use Rattle.hardware.specs.Regs.{regs}
-use Rattle.hardware.specs.Talk.{
-  Talk,
-  Call,
-  Res,
-  ok,
-  end,
-  ask,
-  and_then,
-  or_stop,
-  ◌>>=◌,
-  ◌>>◌,
-  times,
-  pick,
-  is_clear,
-  fail,
-  return,
-  raw,
-  read_raw,
-  write,
-}
 use Rattle.hardware.specs.Talk as talk
 use Rattle.hardware.specs.declared.Action.TheVariants as action
 use Rattle.hardware.specs.declared.Error.TheVariants.{Sideband}
 use Rattle.hardware.specs.declared.Family.{Family}
 use Rattle.hardware.specs.declared.Family.TheVariants.{X552, X553}
 use Rattle.hardware.specs.declared.Port.{Port}
-use Rattle.hardware.specs.declared.Reply.{Reply}
-use Rattle.hardware.specs.declared.Reply.TheVariants as reply
 use Rattle.words.specs.Semaphore.{software, firmware, flash, bits}
 use Rattle.reference.specs.Acquire.{locked}
 use Rattle.reference.specs.Sync.{
@@ -90,30 +70,30 @@ ctrl_clear a b h e = eq-eqb _ 0 (ap (λ x. bit_and x b) (or_zero_r (without a 0x
 
 module _ (f : Family) (p : Side) where
   idle_on : (will : ℕ → ℕ) (c : Chip) (again : Call ℕ) (b : Bool) → b ≡ true
-      → whole f p will c (pick b (end (ok (ctrl_word c.selected false))) again) ≡ record { answer = ok (ctrl_word c.selected false); chip = c; left = will }
+      → whole f p will c (pick b (end (Ok (ctrl_word c.selected false))) again) ≡ record { answer = Ok (ctrl_word c.selected false); chip = c; left = will }
   unfolding whole
   idle_on will c again true e = refl
   idle_on will c again false e = absurd (true≢false (sym e))
 
 idles : (f : Family) (p : Side) (will : ℕ → ℕ) (c : Chip) (pause : ℕ)
-    → whole f p will c (iosf_idle pause) ≡ record { answer = ok (ctrl_word c.selected false); chip = c; left = λ i. will (suc i) }
+    → whole f p will c (iosf_idle pause) ≡ record { answer = Ok (ctrl_word c.selected false); chip = c; left = λ i. will (suc i) }
 unfolding whole iosf_idle times
 idles X552 p will c pause = idle_on X552 p (λ i. will (suc i)) c _ _ (ctrl_clear c.selected 0x80000000 (lit< tt) refl)
 idles X553 p will c pause = idle_on X553 p (λ i. will (suc i)) c _ _ (ctrl_clear c.selected 0x80000000 (lit< tt) refl)
 
 module _ {A : Type 0} (p : Side) (will : ℕ → ℕ) (c : Chip) (k : Reply → Talk A) where
-  write_ctrl : (f : Family) (a : ℕ) → whole f p will c (ask (action.Write 0x11144 a) k) ≡ whole f p (λ i. will (suc i)) (with_selected a c) (k (reply.Done 0))
+  write_ctrl : (f : Family) (a : ℕ) → whole f p will c (ask (action.Write 0x11144 a) k) ≡ whole f p (λ i. will (suc i)) (with_selected a c) (k (Ok 0))
   unfolding whole
   write_ctrl X552 a = refl
   write_ctrl X553 a = refl
 
   write_data : (f : Family) (w : ℕ) → whole f p will c (ask (action.Write 0x11148 w) k)
-      ≡ whole f p (λ i. will (suc i)) (with_kr (put c.selected w c.kr) c) (k (reply.Done 0))
+      ≡ whole f p (λ i. will (suc i)) (with_kr (put c.selected w c.kr) c) (k (Ok 0))
   unfolding whole
   write_data X552 w = refl
   write_data X553 w = refl
 
-  read_data : (f : Family) → whole f p will c (ask (action.Read 0x11148) k) ≡ whole f p (λ i. will (suc i)) c (k (reply.Done (c.kr c.selected)))
+  read_data : (f : Family) → whole f p will c (ask (action.Read 0x11148) k) ≡ whole f p (λ i. will (suc i)) c (k (Ok (c.kr c.selected)))
   unfolding whole
   read_data X552 = refl
   read_data X553 = refl
@@ -128,27 +108,27 @@ module _ (f : Family) (p : Side) (pause a : ℕ) where
   checked will c after = ap (λ b. whole f p will c (pick b after (fail (Sideband a (ctrl_word a false))))) (ctrl_clear a 0xc0000 (lit< tt) refl)
 
   read_alone : (will : ℕ → ℕ) (c : Chip)
-      → whole f p will c (kr_read_body pause a) ≡ record { answer = ok (c.kr a); chip = with_selected a c; left = λ i. will (suc (suc (suc (suc i)))) }
+      → whole f p will c (kr_read_body pause a) ≡ record { answer = Ok (c.kr a); chip = with_selected a c; left = λ i. will (suc (suc (suc (suc i)))) }
   read_alone will c =
       idle_then will c (λ _. write 0x11144 a >> (iosf_idle pause >>= last))
       ∙ write_ctrl p (λ i. will (suc i)) c (λ r. or_stop (λ _. iosf_idle pause >>= last) (talk.done r)) f a
       ∙ idle_then (λ i. will (suc (suc i))) (with_selected a c) last
       ∙ checked (λ i. will (suc (suc (suc i)))) (with_selected a c) (read_raw 0x11148)
       ∙ read_data p (λ i. will (suc (suc (suc i)))) (with_selected a c) (λ r. end (raw r)) f
-      ∙ ended f p (λ i. will (suc (suc (suc (suc i))))) (with_selected a c) (ok (c.kr a))
+      ∙ ended f p (λ i. will (suc (suc (suc (suc i))))) (with_selected a c) (Ok (c.kr a))
     where
       last : ℕ → Call ℕ
       last ctrl = iosf_check a ctrl (read_raw 0x11148)
 
   write_alone : (w : ℕ) (will : ℕ → ℕ) (c : Chip) → whole f p will c (kr_write_body pause a w)
-      ≡ record { answer = ok tt; chip = with_kr (put a w c.kr) (with_selected a c); left = λ i. will (suc (suc (suc (suc i)))) }
+      ≡ record { answer = Ok tt; chip = with_kr (put a w c.kr) (with_selected a c); left = λ i. will (suc (suc (suc (suc i)))) }
   write_alone w will c =
       idle_then will c (λ _. write 0x11144 a >> (write 0x11148 w >> (iosf_idle pause >>= last)))
       ∙ write_ctrl p (λ i. will (suc i)) c (λ r. or_stop (λ _. write 0x11148 w >> (iosf_idle pause >>= last)) (talk.done r)) f a
       ∙ write_data p (λ i. will (suc (suc i))) (with_selected a c) (λ r. or_stop (λ _. iosf_idle pause >>= last) (talk.done r)) f w
       ∙ idle_then (λ i. will (suc (suc (suc i)))) (with_kr (put a w c.kr) (with_selected a c)) last
       ∙ checked (λ i. will (suc (suc (suc (suc i))))) (with_kr (put a w c.kr) (with_selected a c)) (return tt)
-      ∙ ended f p (λ i. will (suc (suc (suc (suc i))))) (with_kr (put a w c.kr) (with_selected a c)) (ok tt)
+      ∙ ended f p (λ i. will (suc (suc (suc (suc i))))) (with_kr (put a w c.kr) (with_selected a c)) (Ok tt)
     where
       last : ℕ → Call (Unit {0})
       last ctrl = iosf_check a ctrl (return tt)
@@ -157,7 +137,7 @@ module _ (f : Family) (p : Side) (pause a : ℕ) where
 
 -- how acquire_bits and release_bits leave the chip
 record After (w : Whole (Res (Unit {0}))) (v : ℕ) (t : ℕ → ℕ) : Type 0 where
-  pub answer : w.answer ≡ ok tt
+  pub answer : w.answer ≡ Ok tt
   pub swsm : w.chip.swsm.value ≡ 0
   pub sync : w.chip.sync.value ≡ v
   pub kr : w.chip.kr ≡ t
@@ -216,12 +196,12 @@ module _ (f : Family) (p : Side) (will : ℕ → ℕ) (who : Caller) (c : Chip) 
 record Outcome {A : Type 0} (w : Whole (Res A)) (v : Chip → A) (g : Chip → Chip) (t : ℕ → ℕ) : Type 0 where
   pub at : Chip
   pub same : at.kr ≡ t
-  pub answer : w.answer ≡ ok (v at)
+  pub answer : w.answer ≡ Ok (v at)
   pub kr : w.chip.kr ≡ (g at).kr
 
 locked_alone : (f : Family) (p : Side) (will : ℕ → ℕ) (who : Caller) (c : Chip) → c.swsm.value ≡ 0 → c.sync.value ≡ 0
     → {A : Type 0} (body : Call A) (v : Chip → A) (g : Chip → Chip) (l : (ℕ → ℕ) → ℕ → ℕ)
-    → ((w : ℕ → ℕ) (c : Chip) → whole f p w c body ≡ record { answer = ok (v c); chip = g c; left = l w })
+    → ((w : ℕ → ℕ) (c : Chip) → whole f p w c body ≡ record { answer = Ok (v c); chip = g c; left = l w })
     → ((c : Chip) → (g c).swsm.value ≡ c.swsm.value) → ((c : Chip) → (g c).sync.value ≡ c.sync.value)
     → Outcome (whole f p will c (locked plain (port_of f who) 6 body)) v g c.kr
 locked_alone f p will who c e d body v g l does swsm_same sync_same =
@@ -230,15 +210,15 @@ locked_alone f p will who c e d body v g l does swsm_same sync_same =
     let taken = acquires f p will who c e d in
     let give = whole f p (l take.left) (g take.chip) (release_bits port 6) in
     let given = releases f p (l take.left) who (g take.chip) (swsm_same take.chip ∙ taken.swsm) (sync_same take.chip ∙ taken.sync) in
-    let goes : whole f p will c (locked plain port 6 body) ≡ record { answer = ok (v take.chip); chip = give.chip; left = give.left } =
+    let goes : whole f p will c (locked plain port 6 body) ≡ record { answer = Ok (v take.chip); chip = give.chip; left = give.left } =
     ap (whole f p will c) (sym (bits_only who.pause port body))
     ∙ whole_then f p will c (acquire_bits port 6) (held_taken plain (release_bits port 6) body)
     ∙ ap (λ r. whole f p take.left take.chip (held_taken plain (release_bits port 6) body r)) taken.answer
     ∙ whole_then f p take.left take.chip body (held_done plain (release_bits port 6))
     ∙ ap (λ r. whole f p r.left r.chip (held_done plain (release_bits port 6) r.answer)) (does take.left take.chip)
-    ∙ whole_then f p (l take.left) (g take.chip) (release_bits port 6) (held_given plain (ok (v take.chip)))
-    ∙ ap (λ r. whole f p give.left give.chip (held_given plain (ok (v take.chip)) r)) given.answer
-    ∙ ended f p give.left give.chip (ok (v take.chip)) in
+    ∙ whole_then f p (l take.left) (g take.chip) (release_bits port 6) (held_given plain (Ok (v take.chip)))
+    ∙ ap (λ r. whole f p give.left give.chip (held_given plain (Ok (v take.chip)) r)) given.answer
+    ∙ ended f p give.left give.chip (Ok (v take.chip)) in
     record { at = take.chip; same = taken.kr; answer = ap (λ r. r.answer) goes; kr = ap (λ r. r.chip.kr) goes ∙ given.kr }
 
 pub whole_and_alone : WholeAndAlone
@@ -246,7 +226,7 @@ unfolding kr_read kr_write
 whole_and_alone f p (reads who a) will c e d =
     let o = locked_alone f p will who c e d (kr_read_body who.pause a) (λ c. c.kr a) (with_selected a) (λ w i. w (suc (suc (suc (suc i)))))
     (read_alone f p who.pause a) (λ c. refl) (λ c. refl) in
-    record { registers = λ b. ap (λ t. t b) (o.kr ∙ o.same); answer = o.answer ∙ ap (λ t. ok (t a)) o.same }
+    record { registers = λ b. ap (λ t. t b) (o.kr ∙ o.same); answer = o.answer ∙ ap (λ t. Ok (t a)) o.same }
 whole_and_alone f p (writes who a w) will c e d =
     let o = locked_alone f p will who c e d (kr_write_body who.pause a w) (λ _. tt) (λ c. with_kr (put a w c.kr) (with_selected a c))
     (λ w i. w (suc (suc (suc (suc i))))) (write_alone f p who.pause a w) (λ c. refl) (λ c. refl) in

@@ -1,4 +1,5 @@
 -- Demand 3
+use Rattle.hardware.specs.Talk.{Talk}
 use Prim.Native.Nat.{ℕ, zero, suc}
 use native.Mathlib.Nat.{lt_of_le_of_lt}
 use mathlib.Core.Path.{◌≡◌, refl, sym, ap, ◌∙◌, subst}
@@ -8,7 +9,6 @@ use mathlib.Core.Option.{Option, none, some, some-injective}
 use lib.Dec.{lit<}
 use lib.Bits.{and_le_l}
 use Rattle.hardware.specs.Bits.{bit}
-use Rattle.hardware.specs.Talk.{Talk}
 use Rattle.hardware.specs.declared.Family.{Family}
 use Rattle.hardware.proofs.Bits.{bit-bit_and, bit_zero}
 use Rattle.reference.specs.Operations.{Out, operation_with}

@@ -1,4 +1,6 @@
 -- The code's conversations stand where the model's ports stand
+use Rattle.std.specs.Prelude.{Err, Ok}
+use Rattle.hardware.specs.Talk.{Talk, Res, end, ask, and_then, pick, Reply}
 use Prim.Native.Nat.{ℕ, ◌≤◌}
 use native.Mathlib.Omega.{arith}
 use native.Mathlib.Nat.{le_trans}
@@ -8,13 +10,10 @@ use mathlib.Core.List.{List, [], ◌∷◌}
 use mathlib.Core.Option.{Option, none, some}
 use lib.ListN.{length}
 use Rattle.hardware.specs.Refusal.{refusal}
-use Rattle.hardware.specs.Talk.{Talk, Res, ok, err, end, ask, and_then, pick}
 use Rattle.hardware.specs.declared.Action.{Action}
 use Rattle.hardware.specs.declared.Action.TheVariants as action
 use Rattle.hardware.specs.declared.Family.{Family}
 use Rattle.hardware.specs.declared.Port.{Port}
-use Rattle.hardware.specs.declared.Reply.{Reply}
-use Rattle.hardware.specs.declared.Reply.TheVariants as reply
 use Rattle.hardware.proofs.Refusal as refused
 use Rattle.reference.specs.Bounds.{block_of}
 use Rattle.reference.specs.Operations.{Out, operation}
@@ -103,12 +102,12 @@ module _ (f : Family) (well : Bool) where
 
 module _ (c : Reply → Talk Out) (conv : Conv) where
   read_goes : (reg : ℕ) (r : Reply) → (step_on (ask (action.Read reg) c) conv (kind_of r) (word r)).to.talk ≡ c r
-  read_goes reg (reply.Done v) = refl
-  read_goes reg (reply.Failed v) = refl
+  read_goes reg (Ok v) = refl
+  read_goes reg (Err v) = refl
 
   write_goes : (reg v : ℕ) (r : Reply) → (step_on (ask (action.Write reg v) c) conv (kind_of r) (word r)).to.talk ≡ c r
-  write_goes reg v (reply.Done n) = refl
-  write_goes reg v (reply.Failed n) = refl
+  write_goes reg v (Ok n) = refl
+  write_goes reg v (Err n) = refl
 
   step_goes : (f : Family) (p : Side) (w : World) (chip : Chip) (a : Action)
       → (step_on (ask a c) conv (kind_of (do_action f p w chip a).reply) (word (do_action f p w chip a).reply)).to.talk ≡ c (do_action f p w chip a).reply
@@ -157,13 +156,13 @@ module _ (f : Family) (p : Side) where
         (pick mixed (record { chip = r.chip; convs = change p (opening port (started u verdict)) r.convs }) r)
     unfolding begins
     begun_tied well false verdict made e = t
-    begun_tied well true (err d) made e =
+    begun_tied well true (Err d) made e =
         record {
           chip = t.chip;
-          stands = change₁ (λ q c. Stands (s.ports q) c.talk) p (opening port (end (err d, []))) r.convs
-              (subst (λ q. Stands q (end (err d, []))) (sym e) ((err d, []), refl)) (λ q o. t.stands q);
+          stands = change₁ (λ q c. Stands (s.ports q) c.talk) p (opening port (end (Err d, []))) r.convs
+              (subst (λ q. Stands q (end (Err d, []))) (sym e) ((Err d, []), refl)) (λ q o. t.stands q);
         }
-    begun_tied well true (ok _) made e =
+    begun_tied well true (Ok _) made e =
         subst (λ c. Tied (moved p s.chip (settle f well (made refl) s.log) s) (record { chip = c; convs = change p (opening port u) r.convs })) (sym t.chip)
         (both s r s.chip (settle f well (made refl) s.log) (opening port u) t (settle_says f well (made refl) u s.log refl))
 

@@ -1,4 +1,6 @@
 -- The model at work, computed: a kr_read alone, two ports that take turns, and a port that stops in the midst of an access
+use Rattle.std.specs.Prelude.{Err, Ok}
+use Rattle.hardware.specs.Talk.{Res, end, and_then, times}
 use Prim.Native.Nat.{ℕ, zero, suc}
 use mathlib.Core.Path.{◌≡◌, refl}
 use mathlib.Core.Bool.{Bool, true, false}
@@ -7,7 +9,6 @@ use mathlib.Core.Option.{Option, none, some}
 use lib.ListN.{replicate}
 use Rattle.hardware.specs.Bits.{bit}
 use Rattle.hardware.specs.Refusal.{refusal}
-use Rattle.hardware.specs.Talk.{Res, ok, err, end, and_then, times}
 use Rattle.hardware.specs.declared.Error.TheVariants.{Semaphore}
 use Rattle.hardware.specs.declared.Family.TheVariants.{X552}
 use Rattle.words.specs.Semaphore.{software, firmware, flash, bits}
@@ -46,8 +47,8 @@ caller p = record { pause = 10; device = 0x15ad; lan = number p }
 
 -- a kr_read by itself, on a port of device 15ad
 abbrev answer_of : Res ℕ → Res Value
-answer_of (ok v) = ok (valuev.Word v)
-answer_of (err e) = err e
+answer_of (Ok v) = Ok (valuev.Word v)
+answer_of (Err e) = Err e
 
 abbrev read_of : Side → ℕ → Option (Begun X552)
 read_of p a =
@@ -65,7 +66,7 @@ module _ (regs : ℕ → ℕ) where
   after es = run X552 read_of es (starting (free 0x20 7 regs))
 
   -- case 13: 23 actions
-  alone : (after (begin lan0 5 ∷ turns 23 lan0)).log ≡ gave (reads (caller lan0) 5) (some (regs 5)) (ok (regs 5)) ∷ touched (reads (caller lan0) 5) none (regs 5) ∷ []
+  alone : (after (begin lan0 5 ∷ turns 23 lan0)).log ≡ gave (reads (caller lan0) 5) (some (regs 5)) (Ok (regs 5)) ∷ touched (reads (caller lan0) 5) none (regs 5) ∷ []
   unfolding after run step begins acts settle bit times kr_read acquire acquire_bits release release_rest release_bits iosf_idle mux bits software firmware flash
   alone = refl
 
@@ -79,20 +80,20 @@ module _ (regs : ℕ → ℕ) where
 
   -- lan 1 begins in the midst of lan 0's access, and waits for it
   both : (after ((begin lan0 5 ∷ turns 12 lan0) ++ ((begin lan1 6 ∷ turns 9 lan1) ++ (turns 11 lan0 ++ turns 23 lan1)))).log
-      ≡ gave (reads (caller lan1) 6) (some (regs 6)) (ok (regs 6)) ∷ touched (reads (caller lan1) 6) none (regs 6)
-      ∷ gave (reads (caller lan0) 5) (some (regs 5)) (ok (regs 5)) ∷ touched (reads (caller lan0) 5) none (regs 5) ∷ []
+      ≡ gave (reads (caller lan1) 6) (some (regs 6)) (Ok (regs 6)) ∷ touched (reads (caller lan1) 6) none (regs 6)
+      ∷ gave (reads (caller lan0) 5) (some (regs 5)) (Ok (regs 5)) ∷ touched (reads (caller lan0) 5) none (regs 5) ∷ []
   unfolding after run step begins acts settle bit times kr_read acquire acquire_bits release release_rest release_bits iosf_idle mux bits software firmware flash
   both = refl
 
   -- lan 1 begins while lan 0 has just seen its bits free: it finds the register semaphore taken, and then the bits
   race : (after ((begin lan0 5 ∷ turns 3 lan0) ++ ((begin lan1 6 ∷ turns 2 lan1) ++ (turns 5 lan0 ++ (turns 9 lan1 ++ (turns 15 lan0 ++ turns 23 lan1)))))).log
-      ≡ gave (reads (caller lan1) 6) (some (regs 6)) (ok (regs 6)) ∷ touched (reads (caller lan1) 6) none (regs 6)
-      ∷ gave (reads (caller lan0) 5) (some (regs 5)) (ok (regs 5)) ∷ touched (reads (caller lan0) 5) none (regs 5) ∷ []
+      ≡ gave (reads (caller lan1) 6) (some (regs 6)) (Ok (regs 6)) ∷ touched (reads (caller lan1) 6) none (regs 6)
+      ∷ gave (reads (caller lan0) 5) (some (regs 5)) (Ok (regs 5)) ∷ touched (reads (caller lan0) 5) none (regs 5) ∷ []
   unfolding after run step begins acts settle bit times kr_read acquire acquire_bits release release_rest release_bits iosf_idle mux bits software firmware flash
   race = refl
 
   -- lan 0 stops there for good: lan 1 tries 1000 times, and says who is in its way
-  stopped : (after ((begin lan0 5 ∷ turns 12 lan0) ++ (begin lan1 6 ∷ turns 9000 lan1))).log ≡ gave (reads (caller lan1) 6) none (err (Semaphore 6)) ∷ []
+  stopped : (after ((begin lan0 5 ∷ turns 12 lan0) ++ (begin lan1 6 ∷ turns 9000 lan1))).log ≡ gave (reads (caller lan1) 6) none (Err (Semaphore 6)) ∷ []
   unfolding after run step begins acts settle bit times kr_read acquire acquire_bits release release_rest release_bits iosf_idle mux bits software firmware flash
   stopped = refl
 

@@ -1,4 +1,5 @@
 -- One step of the firmware: what the ports know still holds
+use Rattle.hardware.specs.Talk.{pick}
 use Prim.Native.Nat.{ℕ, ◌^◌, ◌<◌}
 use mathlib.Core.Path.{◌≡◌, refl, sym, ap, ap₂, ◌∙◌}
 use mathlib.Core.Bool.{Bool, true, false, not, ◌&&◌, ◌||◌, true≢false}
@@ -6,7 +7,6 @@ use lib.Dec.{lit<}
 use lib.Bits.{bit_or, or_lt}
 use lib.Pow.{pow-lt}
 use Rattle.hardware.specs.Bits.{bit, without}
-use Rattle.hardware.specs.Talk.{pick}
 use Rattle.hardware.proofs.Bits.{bit-bit_or, bit_without, only_bit, below}
 use Rattle.mixing.specs.Model.{
   Side,

@@ -1,7 +1,8 @@
 -- How conversations heed the errors of acquire_bits and release_bits
+use Rattle.std.specs.Prelude.{Err, Ok}
+use Rattle.hardware.specs.Talk.{Talk, Call, Res, end, ask, and_then, or_stop, ◌>>=◌}
 use mathlib.Core.Path.{◌≡◌, refl, sym, ap, ◌∙◌}
 use mathlib.Core.Bool.{Bool, false, true≢false}
-use Rattle.hardware.specs.Talk.{Talk, Call, Res, ok, err, end, ask, and_then, or_stop, ◌>>=◌}
 use Rattle.hardware.specs.declared.Family.{Family}
 use Rattle.hardware.proofs.Laws.{then_end, then_assoc}
 use Rattle.mixing.specs.Heeded.{LockCall, lock_talk, NotLock, Fails, fails_end, fails_ask, Heeds, heeds_end, heeds_ask, heeds_call}
@@ -27,15 +28,15 @@ heeds_then {k = k} (heeds_call x c q p z) h e =
     heeds_call x (λ r. and_then (c r) k) (ap (λ t. and_then t k) q ∙ then_assoc (lock_talk x) c k) (heeds_then p h e) (λ d. fails_then (z d) e)
 
 stop_fails : {A B : Type 0} (k : A → Call B) (r : Res A) → is_ok r ≡ false → Fails is_ok (or_stop k r)
-stop_fails k (ok a) e = absurd (true≢false e)
-stop_fails k (err d) e = fails_end refl
+stop_fails k (Ok a) e = absurd (true≢false e)
+stop_fails k (Err d) e = fails_end refl
 
 pub heeds_bind : {A B : Type 0} {f : Family} {t : Call A} {k : A → Call B} → Heeds f is_ok t → ((a : A) → Heeds f is_ok (k a)) → Heeds f is_ok (t >>= k)
 heeds_bind {f = f} {k = k} p h = heeds_then p stop (stop_fails k)
   where
     stop : (r : Res _) → Heeds f is_ok (or_stop k r)
-    stop (ok a) = h a
-    stop (err e) = heeds_end
+    stop (Ok a) = h a
+    stop (Err e) = heeds_end
 
 -- a call by itself
 pub heeds_lock : {f : Family} (x : LockCall) → Heeds f is_ok (lock_talk x)

@@ -1,4 +1,6 @@
 -- What acquire_bits and release_bits do to the bits that a port owns
+use Rattle.std.specs.Prelude.{Err, Ok}
+use Rattle.hardware.specs.Talk.{Call, Res, is_clear, fail, times}
 use Prim.Native.Nat.{ℕ, ◌^◌, ◌<◌}
 use native.Mathlib.Nat.{lt_of_le_of_lt}
 use mathlib.Core.Path.{◌≡◌, refl, sym, ap, ap₂, ◌∙◌}
@@ -7,7 +9,6 @@ use lib.Dec.{lit<}
 use lib.Bits.{bit_and, bit_or, or_lt, and_le_r}
 use Rattle.hardware.specs.Bits.{bit, without}
 use Rattle.hardware.specs.Regs.{regs}
-use Rattle.hardware.specs.Talk.{Call, Res, ok, err, is_clear, fail, times}
 use Rattle.hardware.specs.declared.Error.{Error}
 use Rattle.hardware.specs.declared.Error.TheVariants.{Semaphore}
 use Rattle.hardware.specs.declared.Family.{Family}
@@ -112,7 +113,7 @@ record Unlocked (W W₁ : View) : Type 0 where
   pub mine : (i : ℕ) → W₁.mine i ≡ (W.mine i && not (reg i))
 
 module _ {f : Family} {Q : View → Res (Unit {0}) → Type 0} (W : View) where
-  locks : Clean W → ((W₁ : View) → Locked W W₁ → Q W₁ (ok tt)) → ((W₁ : View) (e : Error) → Now W.mine W₁ → Q W₁ (err e))
+  locks : Clean W → ((W₁ : View) → Locked W W₁ → Q W₁ (Ok tt)) → ((W₁ : View) (e : Error) → Now W.mine W₁ → Q W₁ (Err e))
       → Wp f Q W (lock (regs f))
   locks cl h he =
       lock_goes W cl.free
@@ -250,14 +251,14 @@ clear_software u want h i e =
 pub quiet_mux : (f : Family) (on : Bool) → Quiet f (set_mux on)
 quiet_mux f on = only_bind (only_read (far 0x20 tt tt f)) (λ v. only_bind (only_write (far 0x20 tt tt f)) (λ _. quiet_flush f))
 
-unit : (P : Res (Unit {0}) → Type 0) → P (ok tt) → ((e : Error) → P (err e)) → (r : Res (Unit {0})) → P r
-unit P h he (ok u) = h
-unit P h he (err e) = he e
+unit : (P : Res (Unit {0}) → Type 0) → P (Ok tt) → ((e : Error) → P (Err e)) → (r : Res (Unit {0})) → P r
+unit P h he (Ok u) = h
+unit P h he (Err e) = he e
 
 module _ {f : Family} {Q : View → Res (Unit {0}) → Type 0} (m : ℕ → Bool) where
   pub acquires : (want : Bits) → Software want.sw → (switch : Bool)
-      → ((W₁ : View) → Now (plus m want.sw) W₁ → ((i : ℕ) → bit i want.sw ≡ true → m i ≡ false) → Q W₁ (ok tt))
-      → ((W₁ : View) (e : Error) → Least m W₁ → Q W₁ (err e))
+      → ((W₁ : View) → Now (plus m want.sw) W₁ → ((i : ℕ) → bit i want.sw ≡ true → m i ≡ false) → Q W₁ (Ok tt))
+      → ((W₁ : View) (e : Error) → Least m W₁ → Q W₁ (Err e))
       → (n held : ℕ) (W : View) → Now m W → Wp f Q W (times n (acquire_bits_turn (regs f) want switch) (λ held. fail (Semaphore held)) held)
   acquires want sw switch h he =
       by_turns (λ g. (held : ℕ) (W : View) → Now m W → Wp f Q W (g held)) (acquire_bits_turn (regs f) want switch) (λ held. fail (Semaphore held)) turn
@@ -274,7 +275,7 @@ module _ {f : Family} {Q : View → Res (Unit {0}) → Type 0} (m : ℕ → Bool
           (λ W₃ r u.
           let then = took now l sw (more sw d (clear_software W₁.sync want t)) u in
           let other : (i : ℕ) → bit i want.sw ≡ true → m i ≡ false = λ i p. alone now l d i (clear_software W₁.sync want t i p) in
-          let stop : (e : Error) → Q W₃ (err e) = λ e. he W₃ e (least (λ i p. or_left _ _ p) then) in
+          let stop : (e : Error) → Q W₃ (Err e) = λ e. he W₃ e (least (λ i p. or_left _ _ p) then) in
           or_stop_lem (λ _. wp_pick switch (λ _. quiet_wp (quiet_mux f true) (unit (Q W₃) (h W₃ then other) stop)) (λ _. wp_end (h W₃ then other))) stop r))))
           (λ t. wp_then (unlocks W₁ l.smbi (owns l)
           (λ W₂ r u. let then = peeked now l u in
@@ -283,12 +284,12 @@ module _ {f : Family} {Q : View → Res (Unit {0}) → Type 0} (m : ℕ → Bool
 
   pub releases : (s : ℕ) → Software s → (micros : ℕ) → ((i : ℕ) → bit i s ≡ true → m i ≡ true)
       → ((W₁ : View) (r : Res (Unit {0})) → Now (minus m s) W₁ → Q W₁ r)
-      → ((W₁ : View) (e : Error) → Least (minus m s) W₁ → Q W₁ (err e))
+      → ((W₁ : View) (e : Error) → Least (minus m s) W₁ → Q W₁ (Err e))
       → (W : View) → Now m W → Wp f Q W (release_bits_locked (regs f) s micros)
   releases s sw micros own h he W now =
       wp_then (locks W now.clean
       (λ W₁ l. wp_attempt (clear_sync W₁ s sw.small (owns l) (λ i p. unmine now l i ∙ or_left _ _ (own i p))
       (λ d. wp_then (unlocks _ l.smbi (fewer sw d 31 ∙ ap₂ ◌&&◌ (owns l) (ap not sw.top))
       (λ W₃ r u. let then = gave now l s (fewer sw d) u in
-      or_stop_lem (λ _. wp_ask tt (λ _ _. wp_end (h W₃ (ok tt) then))) (λ e. h W₃ (err e) then) r)))))
+      or_stop_lem (λ _. wp_ask tt (λ _ _. wp_end (h W₃ (Ok tt) then))) (λ e. h W₃ (Err e) then) r)))))
       (λ W₁ e then. wp_end (he W₁ e (least {n = W.mine} (λ i p. now.mine i ∙ and_left _ _ p) then))))

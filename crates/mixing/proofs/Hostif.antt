@@ -1,4 +1,6 @@
 -- hostif.rs keeps the rules
+use Rattle.std.specs.Prelude.{Err, Ok}
+use Rattle.hardware.specs.Talk.{Talk, Call, Res, and_then, ◌>>◌, pick, is_clear, return, fail, delay, times}
 use Prim.Native.Nat.{ℕ, zero, suc, ◌+◌, ◌*◌, ◌-◌, ◌^◌, ◌≤◌, ◌<◌}
 use native.Mathlib.Omega.{arith}
 use native.Mathlib.Nat.{mod-eq_of_lt}
@@ -9,7 +11,6 @@ use lib.Dec.{eqb, ltb}
 use lib.ListN.{length, set}
 use borrow.Author.Tests.{ne_eqb}
 use Rattle.hardware.specs.Block as blk
-use Rattle.hardware.specs.Talk.{Talk, Call, Res, ok, err, and_then, ◌>>◌, pick, is_clear, return, fail, delay, times}
 use Rattle.hardware.specs.declared.Error.TheVariants.{Firmware}
 use Rattle.hardware.specs.declared.Family.{Family}
 use Rattle.hardware.specs.declared.Family.TheVariants.{X552, X553}
@@ -96,8 +97,8 @@ module _ (f : Family) where
   q_lent {k = k} q h = only_then q (λ p. go p.0 p.1)
     where
       go : (r : Res _) (b : List ℕ) → Quiet f (blk.or_stop k r b)
-      go (ok a) b = h a b
-      go (err e) b = only_end
+      go (Ok a) b = h a b
+      go (Err e) b = only_end
 
   q_keep : {A : Type 0} {t : Call A} (b : List ℕ) → Quiet f t → Quiet f (blk.keep t b)
   q_keep b q = only_then q (λ r. only_end)

@@ -1,17 +1,16 @@
 -- kr_read and kr_write keep the rules
+use Rattle.std.specs.Prelude.{Err, Ok}
+use Rattle.hardware.specs.Talk.{Talk, Call, Res, end, ask, is_clear, fail, Reply}
 use Prim.Native.Nat.{ℕ}
 use native.Mathlib.Omega.{arith}
 use mathlib.Core.Path.{◌≡◌, refl, sym, subst, ◌∙◌}
 use mathlib.Core.Bool.{Bool, true, or-true}
 use Rattle.hardware.specs.Bits.{bit}
-use Rattle.hardware.specs.Talk.{Talk, Call, Res, ok, err, end, ask, is_clear, fail}
 use Rattle.hardware.specs.declared.Action.TheVariants as action
 use Rattle.hardware.specs.declared.Error.TheVariants.{Timeout}
 use Rattle.hardware.specs.declared.Family.{Family}
 use Rattle.hardware.specs.declared.Family.TheVariants.{X552, X553}
 use Rattle.hardware.specs.declared.Port.{Port}
-use Rattle.hardware.specs.declared.Reply.{Reply}
-use Rattle.hardware.specs.declared.Reply.TheVariants as reply
 use Rattle.hardware.proofs.Laws.{then_end}
 use Rattle.words.specs.Semaphore.{software}
 use Rattle.reference.specs.Acquire.{locked}
@@ -39,24 +38,24 @@ kind_data X553 = refl
 -- ---- under a lock that has bit 1
 
 module _ {A : Type 0} {f : Family} {Q : View → A → Type 0} {W : View} {c : Reply → Talk A} (mine : W.mine 1 ≡ true) where
-  read_ctrl : ((v : ℕ) → Wp f Q W (c (reply.Done v))) → Wp f Q W (ask (action.Read 0x11144) c)
+  read_ctrl : ((v : ℕ) → Wp f Q W (c (Ok v))) → Wp f Q W (ask (action.Read 0x11144) c)
   read_ctrl h = wp_read is_ctrl (kind_ctrl f) mine (on_success (λ r. Wp f Q W (c r)) (λ v _. h v))
 
-  read_data : ((v : ℕ) → Wp f Q W (c (reply.Done v))) → Wp f Q W (ask (action.Read 0x11148) c)
+  read_data : ((v : ℕ) → Wp f Q W (c (Ok v))) → Wp f Q W (ask (action.Read 0x11148) c)
   read_data h = wp_read is_data (kind_data f) mine (on_success (λ r. Wp f Q W (c r)) (λ v _. h v))
 
-  write_ctrl : {w : ℕ} → ((v : ℕ) → Wp f Q (with_sel w W) (c (reply.Done v))) → Wp f Q W (ask (action.Write 0x11144 w) c)
+  write_ctrl : {w : ℕ} → ((v : ℕ) → Wp f Q (with_sel w W) (c (Ok v))) → Wp f Q W (ask (action.Write 0x11144 w) c)
   write_ctrl {w} h = wp_write is_ctrl (kind_ctrl f) mine (on_success (λ r. Wp f Q (with_sel w W) (c r)) (λ v _. h v))
 
-  write_data : {w : ℕ} → ((v : ℕ) → Wp f Q W (c (reply.Done v))) → Wp f Q W (ask (action.Write 0x11148 w) c)
+  write_data : {w : ℕ} → ((v : ℕ) → Wp f Q W (c (Ok v))) → Wp f Q W (ask (action.Write 0x11148 w) c)
   write_data h = wp_write is_data (kind_data f) mine (on_success (λ r. Wp f Q W (c r)) (λ v _. h v))
 
 idles : {f : Family} {Q : View → Res ℕ → Type 0} {W : View} (pause : ℕ) → W.mine 1 ≡ true → ((r : Res ℕ) → Q W r) → Wp f Q W (iosf_idle pause)
 unfolding iosf_idle
 idles {f} {Q} {W} pause e h =
     by_turns (λ g. (last : ℕ) → Wp f Q W (g last)) (iosf_turn pause) (λ last. fail (Timeout 0x11144 0x80000000 0 last))
-    (λ again g last. read_ctrl e (λ v. wp_pick (is_clear v 0x80000000) (λ _. wp_end (h (ok v))) (λ _. wp_ask tt (λ _ _. g v))))
-    (λ last. wp_end (h (err _))) 100 0
+    (λ again g last. read_ctrl e (λ v. wp_pick (is_clear v 0x80000000) (λ _. wp_end (h (Ok v))) (λ _. wp_ask tt (λ _ _. g v))))
+    (λ last. wp_end (h (Err _))) 100 0
 
 -- in the body nothing is taken or given back
 selects : {m : ℕ → Bool} {W : View} (a : ℕ) → Now m W → Now m (with_sel a W)

@@ -1,9 +1,10 @@
 -- An access by itself: it selects its address before its one touch of DATA, and a read gives what it got there
+use Rattle.std.specs.Prelude.{Err, Ok}
+use Rattle.hardware.specs.Talk.{Talk, Call, Res, end, ask, and_then, pick, or_stop, is_clear, fail, raw, Reply}
 use Prim.Native.Nat.{ℕ}
 use mathlib.Core.Path.{◌≡◌, refl, sym, subst}
 use mathlib.Core.Bool.{Bool, true, false}
 use mathlib.Core.Option.{Option, none, some}
-use Rattle.hardware.specs.Talk.{Talk, Call, Res, ok, err, end, ask, and_then, pick, or_stop, is_clear, fail, raw}
 use Rattle.hardware.specs.Talk as talk
 use Rattle.hardware.specs.declared.Action.{Action}
 use Rattle.hardware.specs.declared.Action.TheVariants as action
@@ -11,8 +12,6 @@ use Rattle.hardware.specs.declared.Error.{Error}
 use Rattle.hardware.specs.declared.Error.TheVariants.{Timeout}
 use Rattle.hardware.specs.declared.Family.{Family}
 use Rattle.hardware.specs.declared.Family.TheVariants.{X552, X553}
-use Rattle.hardware.specs.declared.Reply.{Reply}
-use Rattle.hardware.specs.declared.Reply.TheVariants as reply
 use Rattle.reference.specs.Acquire.{locked}
 use Rattle.reference.specs.Sync.{plain, both, held_taken, release_bits}
 use Rattle.reference.specs.X552.{iosf_turn, iosf_idle, kr_read_body, kr_write_body, kr_read, kr_write}
@@ -97,9 +96,9 @@ module _ {f : Family} {x : Access} where
   loc_then (loc_ask n h) g = loc_ask n (λ r. loc_then (h r) g)
 
   loc_stop : {A B : Type 0} {Q : Option ℕ → Res B → Type 0} {k : A → Call B} {sel seen : Option ℕ}
-      → ((a : A) → Loc f x Q sel seen (k a)) → ((e : Error) → Q seen (err e)) → (r : Res A) → Loc f x Q sel seen (or_stop k r)
-  loc_stop h he (ok a) = h a
-  loc_stop h he (err e) = loc_end (he e)
+      → ((a : A) → Loc f x Q sel seen (k a)) → ((e : Error) → Q seen (Err e)) → (r : Res A) → Loc f x Q sel seen (or_stop k r)
+  loc_stop h he (Ok a) = h a
+  loc_stop h he (Err e) = loc_end (he e)
 
   loc_pick : {A : Type 0} {Q : Option ℕ → A → Type 0} {sel seen : Option ℕ} {t u : Talk A} (b : Bool)
       → Loc f x Q sel seen t → Loc f x Q sel seen u → Loc f x Q sel seen (pick b t u)
@@ -154,26 +153,26 @@ module _ {A : Type 0} {x : Access} {Q : Option ℕ → A → Type 0} {sel seen :
   write_data X553 n h = loc_ask n h
 
 idles : {f : Family} {x : Access} {A : Type 0} {Q : Option ℕ → Res A → Type 0} {sel seen : Option ℕ} (pause : ℕ) (k : ℕ → Call A)
-    → ((v : ℕ) → Loc f x Q sel seen (k v)) → ((e : Error) → Q seen (err e)) → Loc f x Q sel seen (and_then (iosf_idle pause) (or_stop k))
+    → ((v : ℕ) → Loc f x Q sel seen (k v)) → ((e : Error) → Q seen (Err e)) → Loc f x Q sel seen (and_then (iosf_idle pause) (or_stop k))
 unfolding iosf_idle
 idles {f} {x} {A} {Q} {sel} {seen} pause k h he =
     by_turns (λ g. (last : ℕ) → Loc f x Q sel seen (and_then (g last) (or_stop k))) (iosf_turn pause) (λ last. fail (Timeout 0x11144 0x80000000 0 last))
     (λ again g last. read_ctrl f (turn again g)) (λ last. loc_end (he _)) 100 0
   where
     step : (again : ℕ → Call ℕ) → ((last : ℕ) → Loc f x Q sel seen (and_then (again last) (or_stop k))) → (v : ℕ) (b : Bool)
-        → Loc f x Q sel seen (and_then (pick b (end (ok v)) (ask (action.Wait pause) (λ _. again v))) (or_stop k))
+        → Loc f x Q sel seen (and_then (pick b (end (Ok v)) (ask (action.Wait pause) (λ _. again v))) (or_stop k))
     step again g v true = h v
     step again g v false = loc_ask tt (λ _. g v)
 
     turn : (again : ℕ → Call ℕ) → ((last : ℕ) → Loc f x Q sel seen (and_then (again last) (or_stop k))) → (r : Reply)
-        → Loc f x Q sel seen (and_then (or_stop (λ v. pick (is_clear v 0x80000000) (end (ok v)) (ask (action.Wait pause) (λ _. again v))) (raw r)) (or_stop k))
-    turn again g (reply.Done v) = step again g v (is_clear v 0x80000000)
-    turn again g (reply.Failed v) = loc_end (he _)
+        → Loc f x Q sel seen (and_then (or_stop (λ v. pick (is_clear v 0x80000000) (end (Ok v)) (ask (action.Wait pause) (λ _. again v))) (raw r)) (or_stop k))
+    turn again g (Ok v) = step again g v (is_clear v 0x80000000)
+    turn again g (Err v) = loc_end (he _)
 
 on_done : {A : Type 0} {f : Family} {x : Access} {Q : Option ℕ → Res A → Type 0} {sel seen : Option ℕ} {t : Call A}
-    → Loc f x Q sel seen t → ((e : Error) → Q seen (err e)) → (r : Reply) → Loc f x Q sel seen (or_stop (λ _. t) (talk.done r))
-on_done h he (reply.Done v) = h
-on_done h he (reply.Failed v) = loc_end (he _)
+    → Loc f x Q sel seen t → ((e : Error) → Q seen (Err e)) → (r : Reply) → Loc f x Q sel seen (or_stop (λ _. t) (talk.done r))
+on_done h he (Ok v) = h
+on_done h he (Err v) = loc_end (he _)
 
 -- ---- the accesses
 
@@ -182,31 +181,31 @@ module _ (f : Family) (who : Caller) (a : ℕ) where
   read_loc z =
       idles who.pause _
       (λ _. write_ctrl f (on_done
-      (idles who.pause _ (λ v. loc_pick (is_clear v 0xc0000) (read_data f (refl, refl) give) (loc_end {a = err _} tt)) (λ e. tt))
+      (idles who.pause _ (λ v. loc_pick (is_clear v 0xc0000) (read_data f (refl, refl) give) (loc_end {a = Err _} tt)) (λ e. tt))
       (λ e. tt)))
       (λ e. tt)
     where
       give : (r : Reply) → Loc f (reads who a) (RightGave (reads who a)) (some a) (some (word r)) (end (raw r))
-      give (reply.Done v) = loc_end {a = ok v} refl
-      give (reply.Failed v) = loc_end {a = err _} tt
+      give (Ok v) = loc_end {a = Ok v} refl
+      give (Err v) = loc_end {a = Err _} tt
 
   write_loc : (w : ℕ) (z : Option ℕ) → Loc f (writes who a w) (RightGave (writes who a w)) z none (kr_write_body who.pause a w)
   write_loc w z =
       idles who.pause _
       (λ _. write_ctrl f (on_done
       (write_data f (refl, refl, refl) (on_done
-      (idles who.pause _ (λ v. loc_pick (is_clear v 0xc0000) (loc_end {a = ok tt} tt) (loc_end {a = err _} tt)) (λ e. tt)) (λ e. tt)))
+      (idles who.pause _ (λ v. loc_pick (is_clear v 0xc0000) (loc_end {a = Ok tt} tt) (loc_end {a = Err _} tt)) (λ e. tt)) (λ e. tt)))
       (λ e. tt)))
       (λ e. tt)
 
 -- what an access gives where its release has given r too
 right_both : (x : Access) (s : Option ℕ) (g : Res (Given x)) (r : Res (Unit {0})) → RightGave x s g → RightGave x s (both g r)
-right_both (reads who a) s (ok v) (ok u) h = h
-right_both (reads who a) s (ok v) (err e) h = tt
-right_both (reads who a) s (err e) r h = tt
+right_both (reads who a) s (Ok v) (Ok u) h = h
+right_both (reads who a) s (Ok v) (Err e) h = tt
+right_both (reads who a) s (Err e) r h = tt
 right_both (writes who a w) s g r h = tt
 
-right_error : (x : Access) (s : Option ℕ) (e : Error) → RightGave x s (err e)
+right_error : (x : Access) (s : Option ℕ) (e : Error) → RightGave x s (Err e)
 right_error (reads who a) s e = tt
 right_error (writes who a w) s e = tt
 
@@ -217,9 +216,9 @@ locked_loc f x who z body h =
     (loc_then (loc_plain (plain_acquire (port_of f who) 6)) taken)
   where
     taken : (y s : Option ℕ) (r : Res (Unit {0})) → s ≡ none → Loc f x (RightGave x) y s (held_taken plain (release_bits (port_of f who) 6) body r)
-    taken y s (err e) n = loc_end (right_error x s e)
-    taken y s (ok _) n =
-        subst (λ s. Loc f x (RightGave x) y s (held_taken plain (release_bits (port_of f who) 6) body (ok tt))) (sym n)
+    taken y s (Err e) n = loc_end (right_error x s e)
+    taken y s (Ok _) n =
+        subst (λ s. Loc f x (RightGave x) y s (held_taken plain (release_bits (port_of f who) 6) body (Ok tt))) (sym n)
         (loc_then (h y)
         (λ y s g q. loc_then (loc_plain (plain_release (port_of f who) 6)) (λ y s' r e. loc_end (subst (λ t. RightGave x t (both g r)) (sym e) (right_both x s g r q)))))
 

@@ -1,19 +1,15 @@
 -- mdio.rs keeps the rules
+use Rattle.std.specs.Prelude.{None, Option, Some}
+use Rattle.hardware.specs.Talk.{Call, pick, is_clear, fail, return}
 use Prim.Native.Nat.{ℕ, ◌+◌}
 use mathlib.Core.Path.{◌≡◌, refl}
 use mathlib.Core.Bool.{Bool, true, false, ◌||◌}
-use mathlib.Core.Option.{Option}
 use lib.Bits.{bit_or}
 use lib.Dec.{eqb}
-use Rattle.hardware.specs.Talk.{Call, pick, is_clear, fail, return}
 use Rattle.hardware.specs.declared.Error.TheVariants.{Timeout}
 use Rattle.hardware.specs.declared.Family.{Family}
 use Rattle.hardware.specs.declared.Family.TheVariants.{X552, X553}
 use Rattle.hardware.specs.declared.Port.{Port}
-use Rattle.words.specs.declared.phy.PhyId.{PhyId}
-use Rattle.words.specs.declared.phy.PhyId.TheVariants as phyidv
-use Rattle.answers.specs.declared.Scanned.{Scanned}
-use Rattle.answers.specs.declared.Scanned.TheVariants as scannedv
 use Rattle.answers.specs.declared.Speeds.{Speeds}
 use Rattle.reference.specs.Acquire.{hw_of, locked}
 use Rattle.reference.specs.Mdio.{
@@ -89,12 +85,12 @@ module _ (port : Port) where
   pub s_scan : Sound f is_ok (scan port)
   unfolding scan
   s_scan =
-      by_turns (λ g. (phy : ℕ) → Sound f is_ok (g phy)) (scan_turn port) (λ _. return scannedv.Nothing)
+      by_turns (λ g. (phy : ℕ) → Sound f is_ok (g phy)) (scan_turn port) (λ _. return None)
       (λ again g phy. bind (s_probe phy) (found again g phy)) (λ _. ends) 32 0
     where
-      found : (again : ℕ → Call Scanned) → ((phy : ℕ) → Sound f is_ok (again phy)) → (phy : ℕ) (id : PhyId) → Sound f is_ok (scan_found again phy id)
-      found again g phy phyidv.Nothing = g (phy + 1)
-      found again g phy (phyidv.Id id) = ends
+      found : (again : ℕ → Call (Option (ℕ × ℕ))) → ((phy : ℕ) → Sound f is_ok (again phy)) → (phy : ℕ) (id : Option ℕ) → Sound f is_ok (scan_found again phy id)
+      found again g phy None = g (phy + 1)
+      found again g phy (Some id) = ends
 
   s_last : (phy : ℕ) → Sound f is_ok (reset_last port phy)
   s_last phy = bind (s_read_reg phy 4 0) (λ v. picks (is_clear v 0x8000) ends ends)

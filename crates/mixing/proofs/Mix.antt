@@ -1,13 +1,12 @@
 -- What holds after every list of events
+use Rattle.hardware.specs.Talk.{Talk, Res, end, ask, and_then, Reply}
 use Prim.Native.Nat.{ℕ}
 use mathlib.Core.Path.{◌≡◌, refl, sym, ◌∙◌, subst}
 use mathlib.Core.Bool.{Bool, true, false}
 use mathlib.Core.List.{List, [], ◌∷◌}
 use mathlib.Core.Option.{Option, none, some}
-use Rattle.hardware.specs.Talk.{Talk, Res, end, ask, and_then}
 use Rattle.hardware.specs.declared.Action.{Action}
 use Rattle.hardware.specs.declared.Family.{Family}
-use Rattle.hardware.specs.declared.Reply.{Reply}
 use Rattle.reference.specs.Operations.{Out}
 use Rattle.mixing.specs.Mixing.{table, Right, RightGave}
 use Rattle.mixing.specs.Model.{Side, lan0, lan1, Chip, World}

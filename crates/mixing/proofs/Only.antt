@@ -1,30 +1,12 @@
 -- Conversations whose actions are on registers of some kinds alone
+use Rattle.std.specs.Prelude.{Err, Ok}
+use Rattle.hardware.specs.Talk.{Talk, Res, end, ask, and_then, pick, or_stop, ◌>>=◌, attempt, times, read, read_raw, write, flush, delay, Reply}
 use Prim.Native.Nat.{ℕ, zero, suc}
 use mathlib.Core.Bool.{Bool, true, false}
-use Rattle.hardware.specs.Talk.{
-  Talk,
-  Res,
-  ok,
-  err,
-  end,
-  ask,
-  and_then,
-  pick,
-  or_stop,
-  ◌>>=◌,
-  attempt,
-  times,
-  read,
-  read_raw,
-  write,
-  flush,
-  delay,
-}
 use Rattle.hardware.specs.declared.Action.{Action}
 use Rattle.hardware.specs.declared.Action.TheVariants as action
 use Rattle.hardware.specs.declared.Family.{Family}
 use Rattle.hardware.specs.declared.Family.TheVariants.{X552, X553}
-use Rattle.hardware.specs.declared.Reply.{Reply}
 use Rattle.mixing.specs.Model.{Kind, is_swsm, is_sync, is_ctrl, is_data, is_other, kind, On}
 
 -- a loop keeps what each turn keeps
@@ -43,8 +25,8 @@ module _ {K : Kind → Type 0} {f : Family} where
   only_then (only_ask o p) h = only_ask o (λ r. only_then (p r) h)
 
   pub only_stop : {A B : Type 0} {k : A → Talk (Res B)} → ((a : A) → Only K f (k a)) → (r : Res A) → Only K f (or_stop k r)
-  only_stop h (ok a) = h a
-  only_stop h (err e) = only_end
+  only_stop h (Ok a) = h a
+  only_stop h (Err e) = only_end
 
   pub only_bind : {A B : Type 0} {t : Talk (Res A)} {k : A → Talk (Res B)} → Only K f t → ((a : A) → Only K f (k a)) → Only K f (t >>= k)
   only_bind p h = only_then p (only_stop h)

@@ -1,10 +1,11 @@
 -- Every operation of document 01 that is mixed keeps the rules: a line each
+use Rattle.std.specs.Prelude.{Err, Ok}
+use Rattle.hardware.specs.Talk.{Call, Res, is_clear}
 use Prim.Native.Nat.{ℕ, ◌≤◌}
 use mathlib.Core.Path.{◌≡◌, refl, sym}
 use mathlib.Core.Bool.{Bool, true, false, ◌&&◌, true≢false}
 use mathlib.Core.List.{[]}
 use Rattle.hardware.specs.Refusal.{refusal}
-use Rattle.hardware.specs.Talk.{Call, Res, ok, err, is_clear}
 use Rattle.hardware.specs.declared.Family.{Family}
 use Rattle.hardware.specs.declared.Family.TheVariants as familyv
 use Rattle.hardware.specs.declared.Port.{Port}
@@ -109,9 +110,9 @@ module _ (pause : ℕ) (port : Port) where
   sound_op (Poll phy internal forced reforced) m h = answers _ (s_poll pause port phy internal forced reforced)
 
 -- one that is not refused has a host block of at most 16 words
-pub is_ok_lem : (r : Res (Unit {0})) → is_ok r ≡ true → r ≡ ok tt
-is_ok_lem (ok _) e = refl
-is_ok_lem (err d) e = absurd (true≢false (sym e))
+pub is_ok_lem : (r : Res (Unit {0})) → is_ok r ≡ true → r ≡ Ok tt
+is_ok_lem (Ok _) e = refl
+is_ok_lem (Err d) e = absurd (true≢false (sym e))
 
 pub and_right : (a b : Bool) → (a && b) ≡ true → b ≡ true
 and_right true b h = h

@@ -1,10 +1,11 @@
 -- acquire_bits and release_bits touch no KR access register
+use Rattle.std.specs.Prelude.{Err, Ok}
+use Rattle.hardware.specs.Talk.{Talk, Call, Res, is_clear, fail, flush}
 use Prim.Native.Nat.{ℕ}
 use mathlib.Core.Path.{sym, subst}
 use mathlib.Core.Bool.{Bool, true, false}
 use lib.Bits.{bit_and}
 use Rattle.hardware.specs.Regs.{regs}
-use Rattle.hardware.specs.Talk.{Talk, Call, Res, ok, err, is_clear, fail, flush}
 use Rattle.hardware.specs.declared.Error.TheVariants.{Semaphore}
 use Rattle.hardware.specs.declared.Family.{Family}
 use Rattle.hardware.specs.declared.Port.{Port}
@@ -88,11 +89,11 @@ module _ (f : Family) where
 
   plain_got : (want : Bits) (switch : Bool) (again : ℕ → Call (Unit {0})) → ((held : ℕ) → Plain f (again held)) → (r : Res ℕ)
       → Plain f (acquire_bits_got (regs f) want switch again r)
-  plain_got want switch again g (err e) = only_bind plain_unlock (λ _. only_end)
-  plain_got want switch again g (ok v) =
+  plain_got want switch again g (Err e) = only_bind plain_unlock (λ _. only_end)
+  plain_got want switch again g (Ok v) =
       only_pick (is_clear v (busy want))
       (only_attempt (only_write sync_out)
-      (λ taken. only_bind plain_unlock (λ _. only_stop {A = Unit {0}} (λ _. only_pick switch (plain_mux true) (only_end {a = ok tt})) taken)))
+      (λ taken. only_bind plain_unlock (λ _. only_stop {A = Unit {0}} (λ _. only_pick switch (plain_mux true) (only_end {a = Ok tt})) taken)))
       (only_bind plain_unlock (λ _. only_bind (only_wait {n = 5000}) (λ _. g (bit_and v (busy want)))))
 
 pub plain_acquire : (port : Port) (mask : ℕ) → Plain port.family (acquire_bits port mask)

@@ -1,4 +1,6 @@
 -- One action on the shared chip: what its port learns, and that what the other port knows still holds
+use Rattle.std.specs.Prelude.{Ok}
+use Rattle.hardware.specs.Talk.{pick, Reply}
 use Prim.Native.Nat.{ℕ, ◌^◌}
 use native.Mathlib.Omega.{arith}
 use mathlib.Core.Path.{◌≡◌, refl, sym, ap, ◌∙◌, subst}
@@ -8,12 +10,9 @@ use mathlib.Core.Option.{Option, none, some}
 use lib.Dec.{lit<}
 use lib.Bits.{bit_or, or_lt}
 use Rattle.hardware.specs.Bits.{bit}
-use Rattle.hardware.specs.Talk.{pick}
 use Rattle.hardware.specs.declared.Action.{Action}
 use Rattle.hardware.specs.declared.Action.TheVariants as action
 use Rattle.hardware.specs.declared.Family.{Family}
-use Rattle.hardware.specs.declared.Reply.{Reply}
-use Rattle.hardware.specs.declared.Reply.TheVariants as reply
 use Rattle.hardware.proofs.Bits.{bit-bit_or, both_bits}
 use Rattle.mixing.specs.Model.{
   Side,
@@ -190,7 +189,7 @@ swsm_0 p w c W k s = record {
 swsm_1 : (p : Side) (w : World) (c : Chip) (W : View) → ChipOk (with_sm 1 c) → Sees p (with_sm 1 c) W
     → Shared p (do_read p w (with_sm 1 c) is_swsm) W (MayRead W is_swsm) (with_sm 1 c)
 unfolding bit
-swsm_1 p w c W k s = unchanged (with_sm 1 c) (reply.Done 1) (inr refl, λ _. refl) k s
+swsm_1 p w c W k s = unchanged (with_sm 1 c) (Ok 1) (inr refl, λ _. refl) k s
 
 swsm_read : (p : Side) (w : World) (c : Chip) (W : View) → ChipOk c → Sees p c W
     → Shared p (do_read p w c is_swsm) (next_read W is_swsm c.swsm.value) (MayRead W is_swsm) c
@@ -200,7 +199,7 @@ swsm_read p w c W k s = elim k.sm [
 ]
 
 swsm_store : (p : Side) (c : Chip) (W : View) → ChipOk c → Sees p c W → W.smbi ≡ true
-    → Shared p (record { reply = reply.Done 0; chip = with_swsm (becomes (of_port p) 0 c.swsm) c }) (with_smbi false W) (MayWrite is_swsm) c
+    → Shared p (record { reply = Ok 0; chip = with_swsm (becomes (of_port p) 0 c.swsm) c }) (with_smbi false W) (MayWrite is_swsm) c
 unfolding bit
 swsm_store p c W k s e = record {
   may = tt;
@@ -218,7 +217,7 @@ swsm_store p c W k s e = record {
 swsm_write : (p : Side) (w : World) (c : Chip) (W : View) → ChipOk c → Sees p c W → W.smbi ≡ true
     → Shared p (do_write p w c 0 is_swsm) (with_smbi false W) (MayWrite is_swsm) c
 swsm_write p w c W k s e =
-    subst (λ v. Shared p (record { reply = reply.Done 0; chip = with_swsm (becomes (of_port p) v c.swsm) c }) (with_smbi false W) (MayWrite is_swsm) c)
+    subst (λ v. Shared p (record { reply = Ok 0; chip = with_swsm (becomes (of_port p) v c.swsm) c }) (with_smbi false W) (MayWrite is_swsm) c)
     (sym (as_written c.swsm.value 0)) (swsm_store p c W k s e)
 
 -- ---- SW_FW_SYNC
@@ -266,10 +265,10 @@ sync_read : (p : Side) (w : World) (c : Chip) (W : View) → ChipOk c → Sees p
 sync_read p w c W k s = go (bit 31 c.sync.value) refl
   where
     go : (b : Bool) → bit 31 c.sync.value ≡ b
-        → Shared p (record { reply = reply.Done c.sync.value; chip = with_sync (pick b c.sync (becomes (of_port p) (bit_or c.sync.value (2 ^ 31)) c.sync)) c })
+        → Shared p (record { reply = Ok c.sync.value; chip = with_sync (pick b c.sync (becomes (of_port p) (bit_or c.sync.value (2 ^ 31)) c.sync)) c })
         (pick b W (stores c.sync.value (bit_or c.sync.value (2 ^ 31)) W)) (MayRead W is_sync) c
-    go true e = unchanged c (reply.Done c.sync.value) (finds k s) k s
-    go false e = sync_store p c W (bit_or c.sync.value (2 ^ 31)) (reply.Done c.sync.value) (finds k s) k s
+    go true e = unchanged c (Ok c.sync.value) (finds k s) k s
+    go false e = sync_store p c W (bit_or c.sync.value (2 ^ 31)) (Ok c.sync.value) (finds k s) k s
         (record { small = or_lt 32 c.sync.value (2 ^ 31) k.good.small (lit< tt); nine = bit-bit_or 9 c.sync.value (2 ^ 31) ∙ ap (λ t. t || bit 9 (2 ^ 31)) k.good.nine ∙ nine_31 })
         (λ i h z. absurd (true≢false (sym (grows c.sync.value 31 i h) ∙ z)))
         (λ i h z. or_first (bit i c.sync.value) (bit i (2 ^ 31)) (not_31 i h) (sym (bit-bit_or i c.sync.value (2 ^ 31)) ∙ z))
@@ -279,9 +278,9 @@ sync_write : (p : Side) (w : World) (c : Chip) (W : View) (v : ℕ) → ChipOk c
     → Shared p (do_write p w c v is_sync) (stores W.sync v W) (MayWrite is_sync) c
 sync_write p w c W v k s m =
     subst (λ u. Shared p (do_write p w c v is_sync) (stores u v W) (MayWrite is_sync) c) (sym known)
-    (subst (λ x. Shared p (record { reply = reply.Done 0; chip = with_sync (becomes (of_port p) x c.sync) c }) (stores c.sync.value v W) (MayWrite is_sync) c)
+    (subst (λ x. Shared p (record { reply = Ok 0; chip = with_sync (becomes (of_port p) x c.sync) c }) (stores c.sync.value v W) (MayWrite is_sync) c)
     (sym (as_written c.sync.value v))
-    (sync_store p c W v (reply.Done 0) tt k s m.good
+    (sync_store p c W v (Ok 0) tt k s m.good
     (λ i h z. m.drops i (ap (bit i) known ∙ h) z)
     (λ i h z. sym (ap (bit i) known) ∙ m.raises i h z)
     (λ q n. is_false _ (λ h. excl p q (c.sync.owner 31) n (s.mine 31 ∙ m.held) h))))

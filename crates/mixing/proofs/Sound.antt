@@ -1,11 +1,12 @@
 -- What is asked of an operation, and how operations that have it are put together
+use Rattle.std.specs.Prelude.{Err, Ok}
+use Rattle.hardware.specs.Talk.{Talk, Call, Res, end, ask, and_then, pick, or_stop, ◌>>=◌}
 use Prim.Native.Nat.{ℕ}
 use mathlib.Core.Path.{◌≡◌, refl, sym, ap, ◌∙◌, subst}
 use mathlib.Core.Bool.{Bool, true, false, not, ◌&&◌, ◌||◌, true≢false, or-true}
 use mathlib.Core.List.{List}
 use Rattle.hardware.specs.Bits.{bit}
 use Rattle.hardware.specs.Block as blk
-use Rattle.hardware.specs.Talk.{Talk, Call, Res, ok, err, end, ask, and_then, pick, or_stop, ◌>>=◌}
 use Rattle.hardware.specs.declared.Action.TheVariants as action
 use Rattle.hardware.specs.declared.Error.{Error}
 use Rattle.hardware.specs.declared.Family.{Family}
@@ -113,12 +114,12 @@ pub bind : {A B : Type 0} {f : Family} {t : Call A} {k : A → Call B} → Sound
 bind {A} {B} {f} {t} {k} s h = follows s on stop
   where
     on : (r : Res A) → is_ok r ≡ true → Sound f is_ok (or_stop k r)
-    on (ok a) e = h a
-    on (err d) e = absurd (true≢false (sym e))
+    on (Ok a) e = h a
+    on (Err d) e = absurd (true≢false (sym e))
 
     stop : (r : Res A) → is_ok r ≡ false → Stops is_ok (or_stop k r)
-    stop (ok a) e = absurd (true≢false e)
-    stop (err d) e = record { answer = err d; is = refl; bad = refl }
+    stop (Ok a) e = absurd (true≢false e)
+    stop (Err d) e = record { answer = Err d; is = refl; bad = refl }
 
 -- `?` on what a function that is lent a host block gives back
 pub bind_lent : {A B : Type 0} {f : Family} {t : Talk (Res A × List ℕ)} {k : List ℕ → A → Call B} → Sound f well_block t
@@ -126,12 +127,12 @@ pub bind_lent : {A B : Type 0} {f : Family} {t : Talk (Res A × List ℕ)} {k : 
 bind_lent {A} {B} {f} {t} {k} s h = follows s (λ p. on p.1 p.0) (λ p. stop p.1 p.0)
   where
     on : (b : List ℕ) (r : Res A) → is_ok r ≡ true → Sound f is_ok (or_stop (k b) r)
-    on b (ok a) e = h b a
-    on b (err d) e = absurd (true≢false (sym e))
+    on b (Ok a) e = h b a
+    on b (Err d) e = absurd (true≢false (sym e))
 
     stop : (b : List ℕ) (r : Res A) → is_ok r ≡ false → Stops is_ok (or_stop (k b) r)
-    stop b (ok a) e = absurd (true≢false e)
-    stop b (err d) e = record { answer = err d; is = refl; bad = refl }
+    stop b (Ok a) e = absurd (true≢false e)
+    stop b (Err d) e = record { answer = Err d; is = refl; bad = refl }
 
 -- and in such a function
 pub bind_block : {A B : Type 0} {f : Family} {t : Talk (Res A × List ℕ)} {k : A → List ℕ → Talk (Res B × List ℕ)} → Sound f well_block t
@@ -139,12 +140,12 @@ pub bind_block : {A B : Type 0} {f : Family} {t : Talk (Res A × List ℕ)} {k :
 bind_block {A} {B} {f} {t} {k} s h = follows s (λ p. on p.0 p.1) (λ p. stop p.0 p.1)
   where
     on : (r : Res A) (b : List ℕ) → is_ok r ≡ true → Sound f well_block (blk.or_stop k r b)
-    on (ok a) b e = h a b
-    on (err d) b e = absurd (true≢false (sym e))
+    on (Ok a) b e = h a b
+    on (Err d) b e = absurd (true≢false (sym e))
 
     stop : (r : Res A) (b : List ℕ) → is_ok r ≡ false → Stops well_block (blk.or_stop k r b)
-    stop (ok a) b e = absurd (true≢false e)
-    stop (err d) b e = record { answer = (err d, b); is = refl; bad = refl }
+    stop (Ok a) b e = absurd (true≢false e)
+    stop (Err d) b e = record { answer = (Err d, b); is = refl; bad = refl }
 
 pub keeps : {A : Type 0} {f : Family} {t : Call A} (b : List ℕ) → Sound f is_ok t → Sound f well_block (blk.keep t b)
 keeps b s = follows s (λ r e. ends) (λ r e. record { answer = (r, b); is = refl; bad = e })
@@ -152,12 +153,12 @@ keeps b s = follows s (λ r e. ends) (λ r e. record { answer = (r, b); is = ref
 -- ---- a body under a lock
 
 abbrev pub Took : (ℕ → Bool) → ℕ → View → Res (Unit {0}) → Type 0
-Took m s W (ok _) = Now (plus m s) W × ((i : ℕ) → bit i s ≡ true → m i ≡ false)
-Took m s W (err e) = Least m W
+Took m s W (Ok _) = Now (plus m s) W × ((i : ℕ) → bit i s ≡ true → m i ≡ false)
+Took m s W (Err e) = Least m W
 
 abbrev pub Gave : (ℕ → Bool) → ℕ → View → Res (Unit {0}) → Type 0
-Gave m s W (ok _) = Now (minus m s) W
-Gave m s W (err e) = Least (minus m s) W
+Gave m s W (Ok _) = Now (minus m s) W
+Gave m s W (Err e) = Least (minus m s) W
 
 -- `take` takes the bits s, and `give` gives them back
 pub record Bracket (f : Family) (s : ℕ) (take give : Call (Unit {0})) : Type 0 where
@@ -171,19 +172,19 @@ pub record Bracket (f : Family) (s : ℕ) (take give : Call (Unit {0})) : Type 0
 -- what `held` makes of errors: none is lost
 pub record Honest {X : Type 0} (well : X → Bool) (ending : Ending X) : Type 0 where
   pub before : (e : Error) → well (ending.before e) ≡ false
-  pub after : (x : X) → well (ending.after x (ok tt)) ≡ well x
-  pub after_error : (x : X) (e : Error) → well (ending.after x (err e)) ≡ false
+  pub after : (x : X) → well (ending.after x (Ok tt)) ≡ well x
+  pub after_error : (x : X) (e : Error) → well (ending.after x (Err e)) ≡ false
 
 pub honest_plain : {A : Type 0} → Honest {X = Res A} is_ok plain
 honest_plain {A} = record { before = λ e. refl; after = good; after_error = bad }
   where
-    good : (x : Res A) → is_ok (plain.after x (ok tt)) ≡ is_ok x
-    good (ok a) = refl
-    good (err e) = refl
+    good : (x : Res A) → is_ok (plain.after x (Ok tt)) ≡ is_ok x
+    good (Ok a) = refl
+    good (Err e) = refl
 
-    bad : (x : Res A) (d : Error) → is_ok (plain.after x (err d)) ≡ false
-    bad (ok a) d = refl
-    bad (err e) d = refl
+    bad : (x : Res A) (d : Error) → is_ok (plain.after x (Err d)) ≡ false
+    bad (Ok a) d = refl
+    bad (Err e) d = refl
 
 pub honest_block : {A : Type 0} (b : List ℕ) → Honest {X = Res A × List ℕ} well_block (with_block b)
 honest_block b =
@@ -216,8 +217,8 @@ module _ {f : Family} {s : ℕ} {take give : Call (Unit {0})} (bracket : Bracket
   gives_back W now = wp_mono last (bracket.gives (plus m s) W now (λ i p. or_right (m i) (bit i s) p))
     where
       last : (W₁ : View) (r : Res (Unit {0})) → Gave (plus m s) s W₁ r → EndsIf (is_ok r) m W₁
-      last W₁ (ok _) g = record { clean = g.clean; mine = λ i. g.mine i ∙ cancel (m i) (bit i s) (apart i) }
-      last W₁ (err e) g = record { clean = g.clean; keeps = λ i p. g.keeps i (kept (m i) _ (bit i s) (apart i) (λ q. q) p) }
+      last W₁ (Ok _) g = record { clean = g.clean; mine = λ i. g.mine i ∙ cancel (m i) (bit i s) (apart i) }
+      last W₁ (Err e) g = record { clean = g.clean; keeps = λ i p. g.keeps i (kept (m i) _ (bit i s) (apart i) (λ q. q) p) }
 
   pub gives_back_least : (W : View) → Least (plus m s) W → Wp f (λ W₁ r. Least m W₁) W give
   gives_back_least W l = wp_mono last (bracket.gives W.mine W (here l.clean) (λ i p. l.keeps i (or_right (m i) (bit i s) p)))
@@ -226,13 +227,13 @@ module _ {f : Family} {s : ℕ} {take give : Call (Unit {0})} (bracket : Bracket
       keep i p = kept (m i) (W.mine i) (bit i s) (apart i) (l.keeps i) p
 
       last : (W₁ : View) (r : Res (Unit {0})) → Gave W.mine s W₁ r → Least m W₁
-      last W₁ (ok _) g = least keep g
-      last W₁ (err e) g = record { clean = g.clean; keeps = λ i p. g.keeps i (keep i p) }
+      last W₁ (Ok _) g = least keep g
+      last W₁ (Err e) g = record { clean = g.clean; keeps = λ i p. g.keeps i (keep i p) }
 
 still_bad : {X : Type 0} {well : X → Bool} {ending : Ending X} → Honest well ending → (x : X) (r : Res (Unit {0})) → well x ≡ false
     → well (ending.after x r) ≡ false
-still_bad honest x (ok _) e = honest.after x ∙ e
-still_bad honest x (err d) e = honest.after_error x d
+still_bad honest x (Ok _) e = honest.after x ∙ e
+still_bad honest x (Err d) e = honest.after_error x d
 
 module _ {X : Type 0} {f : Family} {s : ℕ} {take give : Call (Unit {0})} {well : X → Bool} {ending : Ending X} {body : Talk X}
     (bracket : Bracket f s take give) (honest : Honest well ending) where
@@ -240,18 +241,18 @@ module _ {X : Type 0} {f : Family} {s : ℕ} {take give : Call (Unit {0})} {well
   under_heeds h = heeds_then bracket.take_heeds taken fails_taken
     where
       given_fails : (x : X) (r : Res (Unit {0})) → is_ok r ≡ false → Fails well (end (ending.after x r))
-      given_fails x (ok _) e = absurd (true≢false e)
-      given_fails x (err d) e = fails_end (honest.after_error x d)
+      given_fails x (Ok _) e = absurd (true≢false e)
+      given_fails x (Err d) e = fails_end (honest.after_error x d)
 
       taken : (r : Res (Unit {0})) → Heeds f well (held_taken ending give body r)
-      taken (err e) = heeds_end
-      taken (ok _) =
+      taken (Err e) = heeds_end
+      taken (Ok _) =
           heeds_then h (λ x. heeds_then bracket.give_heeds (λ r. heeds_end) (given_fails x))
           (λ x e. fails_after give (λ r. fails_end (still_bad honest x r e)))
 
       fails_taken : (r : Res (Unit {0})) → is_ok r ≡ false → Fails well (held_taken ending give body r)
-      fails_taken (ok _) e = absurd (true≢false e)
-      fails_taken (err d) e = fails_end (honest.before d)
+      fails_taken (Ok _) e = absurd (true≢false e)
+      fails_taken (Err d) e = fails_end (honest.before d)
 
   -- the body has the bits s besides m
   pub under_wp : (m : ℕ → Bool) → ((W : View) → Now (plus m s) W → Wp f (Ends well (plus m s)) W body)
@@ -259,8 +260,8 @@ module _ {X : Type 0} {f : Family} {s : ℕ} {take give : Call (Unit {0})} {well
   under_wp m h W now = wp_then (wp_mono taken (bracket.takes m W now))
     where
       given : (x : X) → well x ≡ true → (W₁ : View) (r : Res (Unit {0})) → EndsIf (is_ok r) m W₁ → Wp f (Ends well m) W₁ (end (ending.after x r))
-      given x e W₁ (ok _) n = wp_end (subst (λ c. EndsIf c m W₁) (sym (honest.after x ∙ e)) n)
-      given x e W₁ (err d) l = wp_end (ends_bad (honest.after_error x d) l)
+      given x e W₁ (Ok _) n = wp_end (subst (λ c. EndsIf c m W₁) (sym (honest.after x ∙ e)) n)
+      given x e W₁ (Err d) l = wp_end (ends_bad (honest.after_error x d) l)
 
       back : ((i : ℕ) → bit i s ≡ true → m i ≡ false) → (W₁ : View) (x : X) (c : Bool) → well x ≡ c → EndsIf c (plus m s) W₁
           → Wp f (Ends well m) W₁ (held_done ending give x)
@@ -268,8 +269,8 @@ module _ {X : Type 0} {f : Family} {s : ℕ} {take give : Call (Unit {0})} {well
       back apart W₁ x false e l = wp_then (wp_mono (λ W₂ r q. wp_end (ends_bad (still_bad honest x r e) q)) (gives_back_least bracket apart W₁ l))
 
       taken : (W₁ : View) (r : Res (Unit {0})) → Took m s W₁ r → Wp f (Ends well m) W₁ (held_taken ending give body r)
-      taken W₁ (ok _) t = wp_then (wp_mono (λ W₂ x q. back t.1 W₂ x (well x) refl q) (h W₁ t.0))
-      taken W₁ (err e) l = wp_end (ends_bad (honest.before e) l)
+      taken W₁ (Ok _) t = wp_then (wp_mono (λ W₂ x q. back t.1 W₂ x (well x) refl q) (h W₁ t.0))
+      taken W₁ (Err e) l = wp_end (ends_bad (honest.before e) l)
 
   pub under : Sound f well body → Sound f well (held ending take give body)
   under b =
@@ -280,8 +281,8 @@ module _ {X : Type 0} {f : Family} {s : ℕ} {take give : Call (Unit {0})} {well
       }
     where
       taken : (r : Res (Unit {0})) → Made f (held_taken ending give body r)
-      taken (err e) = done _
-      taken (ok _) = made_then b.made (λ x. made_then bracket.give_made (λ r. done _))
+      taken (Err e) = done _
+      taken (Ok _) = made_then b.made (λ x. made_then bracket.give_made (λ r. done _))
 
 -- ---- acquire_bits and release_bits
 
@@ -300,5 +301,5 @@ bits_bracket port mask =
     }
   where
     gave : (m : ℕ → Bool) (W₁ : View) (r : Res (Unit {0})) → Now (minus m (software mask)) W₁ → Gave m (software mask) W₁ r
-    gave m W₁ (ok _) n = n
-    gave m W₁ (err e) n = least (λ i p. p) n
+    gave m W₁ (Ok _) n = n
+    gave m W₁ (Err e) n = least (λ i p. p) n

@@ -1,10 +1,11 @@
 -- sync.rs's `acquire` and `release`, with TOKEN, are a bracket as well
+use Rattle.std.specs.Prelude.{Err, Ok}
+use Rattle.hardware.specs.Talk.{Talk, Call, Res, end, and_then, or_stop, ◌>>=◌, ◌>>◌, attempt, pick, is_clear, fail}
 use Prim.Native.Nat.{ℕ}
 use mathlib.Core.Path.{◌≡◌, refl, sym, ap, ◌∙◌, subst}
 use mathlib.Core.Bool.{Bool, true, false, not, ◌&&◌, true≢false}
 use lib.Dec.{eqb}
 use Rattle.hardware.specs.Bits.{bit}
-use Rattle.hardware.specs.Talk.{Talk, Call, Res, ok, err, end, and_then, or_stop, ◌>>=◌, ◌>>◌, attempt, pick, is_clear, fail}
 use Rattle.hardware.specs.declared.Error.{Error}
 use Rattle.hardware.specs.declared.Error.TheVariants.{Firmware}
 use Rattle.hardware.specs.declared.Family.{Family}
@@ -40,8 +41,8 @@ made_bind : {A B : Type 0} {f : Family} {t : Call A} {k : A → Call B} → Made
 made_bind {f = f} {k = k} m h = made_then m go
   where
     go : (r : Res _) → Made f (or_stop k r)
-    go (ok a) = h a
-    go (err e) = done (err e)
+    go (Ok a) = h a
+    go (Err e) = done (Err e)
 
 made_pick : {A : Type 0} {f : Family} {t u : Talk A} (b : Bool) → Made f t → Made f u → Made f (pick b t u)
 made_pick true p q = p
@@ -57,25 +58,25 @@ fails_pick false p q = q
 
 module _ {A B : Type 0} (t : Call A) (k : Res A → Call B) where
   attempt_then : and_then t k ≡ (attempt t >>= k)
-  attempt_then = sym (then_assoc t (λ r. end (ok r)) (or_stop k))
+  attempt_then = sym (then_assoc t (λ r. end (Ok r)) (or_stop k))
 
   made_attempt : {f : Family} → Made f t → ((r : Res A) → Made f (k r)) → Made f (attempt t >>= k)
   made_attempt {f} m h = subst (Made f) attempt_then (made_then m h)
 
-  heeds_attempt : {f : Family} → Heeds f is_ok t → ((r : Res A) → Heeds f is_ok (k r)) → ((e : Error) → Fails is_ok (k (err e))) → Heeds f is_ok (attempt t >>= k)
+  heeds_attempt : {f : Family} → Heeds f is_ok t → ((r : Res A) → Heeds f is_ok (k r)) → ((e : Error) → Fails is_ok (k (Err e))) → Heeds f is_ok (attempt t >>= k)
   heeds_attempt {f} p h z = subst (Heeds f is_ok) attempt_then (heeds_then p h bad)
     where
       bad : (r : Res A) → is_ok r ≡ false → Fails is_ok (k r)
-      bad (ok a) e = absurd (true≢false e)
-      bad (err d) e = z d
+      bad (Ok a) e = absurd (true≢false e)
+      bad (Err d) e = z d
 
 -- an error behind anything
-fails_with : {A : Type 0} (t : Call A) (e : Error) → Fails {A = Res (Unit {0})} is_ok (t >> end (err e))
+fails_with : {A : Type 0} (t : Call A) (e : Error) → Fails {A = Res (Unit {0})} is_ok (t >> end (Err e))
 fails_with {A} t e = fails_after t go
   where
-    go : (r : Res A) → Fails {A = Res (Unit {0})} is_ok (or_stop (λ _. end (err e)) r)
-    go (ok a) = fails_end refl
-    go (err d) = fails_end refl
+    go : (r : Res A) → Fails {A = Res (Unit {0})} is_ok (or_stop (λ _. end (Err e)) r)
+    go (Ok a) = fails_end refl
+    go (Err d) = fails_end refl
 
 -- ---- `acquire`
 
@@ -91,22 +92,22 @@ module _ (port : Port) (hw : ℕ) (some_bits : eqb hw 0 ≡ false) where
 
   module _ (again : Call (Unit {0})) where
     module _ (m : ℕ → Bool) (go : (W : View) → Now m W → Wp f (Took m s) W again) (apart : (i : ℕ) → bit i s ≡ true → m i ≡ false) where
-      lost : (W : View) (r : Res (Unit {0})) → EndsIf (is_ok r) m W → Wp f (Took m s) W (or_stop (λ _. acquire_lost (ok false) again) r)
+      lost : (W : View) (r : Res (Unit {0})) → EndsIf (is_ok r) m W → Wp f (Took m s) W (or_stop (λ _. acquire_lost (Ok false) again) r)
       unfolding acquire_lost
-      lost W (ok _) now = wp_ask tt (λ _ _. go W now)
-      lost W (err e) l = wp_end l
+      lost W (Ok _) now = wp_ask tt (λ _ _. go W now)
+      lost W (Err e) l = wp_end l
 
-      lost_error : (e : Error) (W : View) (r : Res (Unit {0})) → Least m W → Wp f (Took m s) W (or_stop (λ _. acquire_lost (err e) again) r)
+      lost_error : (e : Error) (W : View) (r : Res (Unit {0})) → Least m W → Wp f (Took m s) W (or_stop (λ _. acquire_lost (Err e) again) r)
       unfolding acquire_lost
-      lost_error e W (ok _) l = wp_end l
-      lost_error e W (err d) l = wp_end l
+      lost_error e W (Ok _) l = wp_end l
+      lost_error e W (Err d) l = wp_end l
 
       got : (W : View) (granted : Res Bool) → EndsIf (is_ok granted) (plus m s) W → Wp f (Took m s) W (acquire_got port hw again granted)
       unfolding acquire_got acquire_given
-      got W (ok true) now = wp_end {a = ok tt} (now, apart)
-      got W (ok false) now =
+      got W (Ok true) now = wp_end {a = Ok tt} (now, apart)
+      got W (Ok false) now =
           wp_pick (eqb hw 0) (λ e. absurd (true≢false (sym e ∙ some_bits))) (λ _. wp_then (wp_mono lost (gives_back bits apart W now)))
-      got W (err e) l =
+      got W (Err e) l =
           wp_pick (eqb hw 0) (λ t. absurd (true≢false (sym t ∙ some_bits))) (λ _. wp_then (wp_mono (lost_error e) (gives_back_least bits apart W l)))
 
       asked : (W : View) → Now (plus m s) W → Wp f (Took m s) W (acquire_ask port hw again)
@@ -118,14 +119,14 @@ module _ (port : Port) (hw : ℕ) (some_bits : eqb hw 0 ≡ false) where
         wp_pick (eqb hw 0) (λ e. absurd (true≢false (sym e ∙ some_bits))) (λ _. wp_then (wp_mono taken (bits.takes m W now)))
       where
         taken : (W₁ : View) (r : Res (Unit {0})) → Took m s W₁ r → Wp f (Took m s) W₁ (or_stop (λ _. acquire_ask port hw again) r)
-        taken W₁ (ok _) t = asked m go t.1 W₁ t.0
-        taken W₁ (err e) l = wp_end l
+        taken W₁ (Ok _) t = asked m go t.1 W₁ t.0
+        taken W₁ (Err e) l = wp_end l
 
     module _ (g : Made f again) where
       made_lost : (granted : Res Bool) → Made f (acquire_lost granted again)
       unfolding acquire_lost
-      made_lost (ok b) = other tt (λ _. g)
-      made_lost (err e) = done _
+      made_lost (Ok b) = other tt (λ _. g)
+      made_lost (Err e) = done _
 
       made_given : (granted : Res Bool) → Made f (acquire_given port hw again granted)
       unfolding acquire_given
@@ -133,9 +134,9 @@ module _ (port : Port) (hw : ℕ) (some_bits : eqb hw 0 ≡ false) where
 
       made_got : (granted : Res Bool) → Made f (acquire_got port hw again granted)
       unfolding acquire_got
-      made_got (ok true) = done _
-      made_got (ok false) = made_given (ok false)
-      made_got (err e) = made_given (err e)
+      made_got (Ok true) = done _
+      made_got (Ok false) = made_given (Ok false)
+      made_got (Err e) = made_given (Err e)
 
       made_asked : Made f (acquire_ask port hw again)
       unfolding acquire_ask
@@ -147,8 +148,8 @@ module _ (port : Port) (hw : ℕ) (some_bits : eqb hw 0 ≡ false) where
     module _ (g : Heeds f is_ok again) where
       heeds_lost : (granted : Res Bool) → Heeds f is_ok (acquire_lost granted again)
       unfolding acquire_lost
-      heeds_lost (ok b) = heeds_ask tt (λ _. g)
-      heeds_lost (err e) = heeds_end
+      heeds_lost (Ok b) = heeds_ask tt (λ _. g)
+      heeds_lost (Err e) = heeds_end
 
       heeds_given : (granted : Res Bool) → Heeds f is_ok (acquire_given port hw again granted)
       unfolding acquire_given
@@ -156,11 +157,11 @@ module _ (port : Port) (hw : ℕ) (some_bits : eqb hw 0 ≡ false) where
 
       heeds_got : (granted : Res Bool) → Heeds f is_ok (acquire_got port hw again granted)
       unfolding acquire_got
-      heeds_got (ok true) = heeds_end
-      heeds_got (ok false) = heeds_given (ok false)
-      heeds_got (err e) = heeds_given (err e)
+      heeds_got (Ok true) = heeds_end
+      heeds_got (Ok false) = heeds_given (Ok false)
+      heeds_got (Err e) = heeds_given (Err e)
 
-      fails_got : (e : Error) → Fails is_ok (acquire_got port hw again (err e))
+      fails_got : (e : Error) → Fails is_ok (acquire_got port hw again (Err e))
       unfolding acquire_got acquire_given acquire_lost
       fails_got e = fails_pick (eqb hw 0) (fails_end refl) (fails_with (release_bits port hw) e)
 
@@ -174,15 +175,15 @@ module _ (port : Port) (hw : ℕ) (some_bits : eqb hw 0 ≡ false) where
   -- ---- `release`
 
   module _ (m : ℕ → Bool) (own : (i : ℕ) → bit i s ≡ true → m i ≡ true) where
-    rest : (W : View) → Now m W → Wp f (Gave m s) W (release_rest port hw (ok tt))
+    rest : (W : View) → Now m W → Wp f (Gave m s) W (release_rest port hw (Ok tt))
     unfolding release_rest
     rest W now = wp_pick (eqb hw 0) (λ e. absurd (true≢false (sym e ∙ some_bits))) (λ _. wp_then (wp_mono last (bits.gives m W now own)))
       where
-        last : (W₁ : View) (r : Res (Unit {0})) → Gave m s W₁ r → Wp f (Gave m s) W₁ (or_stop (λ _. end (ok tt)) r)
-        last W₁ (ok _) g = wp_end g
-        last W₁ (err e) g = wp_end g
+        last : (W₁ : View) (r : Res (Unit {0})) → Gave m s W₁ r → Wp f (Gave m s) W₁ (or_stop (λ _. end (Ok tt)) r)
+        last W₁ (Ok _) g = wp_end g
+        last W₁ (Err e) g = wp_end g
 
-    rest_error : (e : Error) (W : View) → Least m W → Wp f (Gave m s) W (release_rest port hw (err e))
+    rest_error : (e : Error) (W : View) → Least m W → Wp f (Gave m s) W (release_rest port hw (Err e))
     unfolding release_rest
     rest_error e W l =
         wp_pick (eqb hw 0) (λ t. absurd (true≢false (sym t ∙ some_bits)))
@@ -195,13 +196,13 @@ module _ (port : Port) (hw : ℕ) (some_bits : eqb hw 0 ≡ false) where
         keep : (i : ℕ) → minus m s i ≡ true → minus W.mine s i ≡ true
         keep i = kept (m i) (W.mine i) (bit i s) (l.keeps i)
 
-        last : (W₁ : View) (r : Res (Unit {0})) → Gave W.mine s W₁ r → Wp f (Gave m s) W₁ (or_stop (λ _. end (err e)) r)
-        last W₁ (ok _) g = wp_end (least keep g)
-        last W₁ (err d) g = wp_end {a = err d} (record { clean = g.clean; keeps = λ i p. g.keeps i (keep i p) })
+        last : (W₁ : View) (r : Res (Unit {0})) → Gave W.mine s W₁ r → Wp f (Gave m s) W₁ (or_stop (λ _. end (Err e)) r)
+        last W₁ (Ok _) g = wp_end (least keep g)
+        last W₁ (Err d) g = wp_end {a = Err d} (record { clean = g.clean; keeps = λ i p. g.keeps i (keep i p) })
 
     tokened : (W : View) (given : Res Bool) → EndsIf (is_ok given) m W → Wp f (Gave m s) W (release_rest port hw (forget given))
-    tokened W (ok b) now = rest W now
-    tokened W (err e) l = rest_error e W l
+    tokened W (Ok b) now = rest W now
+    tokened W (Err e) l = rest_error e W l
 
   made_rest : (r : Res (Unit {0})) → Made f (release_rest port hw r)
   unfolding release_rest
@@ -211,7 +212,7 @@ module _ (port : Port) (hw : ℕ) (some_bits : eqb hw 0 ≡ false) where
   unfolding release_rest
   heeds_rest r = heeds_pick (eqb hw 0) heeds_end (heeds_bind bits.give_heeds (λ _. heeds_end))
 
-  fails_rest : (e : Error) → Fails is_ok (release_rest port hw (err e))
+  fails_rest : (e : Error) → Fails is_ok (release_rest port hw (Err e))
   unfolding release_rest
   fails_rest e = fails_pick (eqb hw 0) (fails_end refl) (fails_with (release_bits port hw) e)
 
@@ -229,11 +230,11 @@ token_bracket port mask h =
           (λ _. wp_attempt (wp_mono (tokened port hw h m own) ((s_token port false).balanced m W now)));
       take_made = made_pick (is_clear mask 0x40000000) bits.take_made
           (by_turns (Made f) (acquire_turn port hw) (fail (Firmware 0x0a 0x80)) (made_turn port hw h) (done _) 1000);
-      give_made = made_pick (is_clear mask 0x40000000) (made_rest port hw h (ok tt))
+      give_made = made_pick (is_clear mask 0x40000000) (made_rest port hw h (Ok tt))
           (made_attempt (token port false) (λ given. release_rest port hw (forget given)) (s_token port false).made (λ given. made_rest port hw h (forget given)));
       take_heeds = heeds_pick (is_clear mask 0x40000000) bits.take_heeds
           (by_turns (Heeds f is_ok) (acquire_turn port hw) (fail (Firmware 0x0a 0x80)) (heeds_turn port hw h) heeds_end 1000);
-      give_heeds = heeds_pick (is_clear mask 0x40000000) (heeds_rest port hw h (ok tt))
+      give_heeds = heeds_pick (is_clear mask 0x40000000) (heeds_rest port hw h (Ok tt))
           (heeds_attempt (token port false) (λ given. release_rest port hw (forget given)) (s_token port false).heeds (λ given. heeds_rest port hw h (forget given))
           (fails_rest port hw h));
     }

@@ -1,15 +1,14 @@
 -- What an action does to the KR registers, and what it puts on record
+use Rattle.hardware.specs.Talk.{pick, Reply}
 use Prim.Native.Nat.{ℕ}
 use mathlib.Core.Path.{◌≡◌, refl, sym, ap, ap₂, ◌∙◌}
 use mathlib.Core.Bool.{true, false, true≢false}
 use mathlib.Core.List.{List}
 use mathlib.Core.Option.{Option, none, some}
 use lib.Dec.{eqb}
-use Rattle.hardware.specs.Talk.{pick}
 use Rattle.hardware.specs.declared.Action.{Action}
 use Rattle.hardware.specs.declared.Action.TheVariants as action
 use Rattle.hardware.specs.declared.Family.{Family}
-use Rattle.hardware.specs.declared.Reply.{Reply}
 use Rattle.mixing.specs.Mixing.{table, Right}
 use Rattle.mixing.specs.Model.{Side, Chip, Kind, is_swsm, is_sync, is_ctrl, is_data, is_other, kind, put, World, do_read, do_write, do_action}
 use Rattle.mixing.specs.System.{Access, reads, writes, NotIosf, Outside, Entry, if_data, touch, log_then, word}

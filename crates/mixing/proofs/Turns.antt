@@ -1,9 +1,10 @@
 -- Accesses that take turns, computed. Each fault of must-fail/ makes one of these facts false
+use Rattle.std.specs.Prelude.{Ok}
+use Rattle.hardware.specs.Talk.{end, times}
 use Prim.Native.Nat.{ℕ}
 use mathlib.Core.Path.{◌≡◌, refl}
 use mathlib.Core.List.{[], ◌∷◌}
 use Rattle.hardware.specs.Bits.{bit}
-use Rattle.hardware.specs.Talk.{end, ok, times}
 use Rattle.hardware.specs.declared.Family.TheVariants.{X552}
 use Rattle.words.specs.Semaphore.{software, firmware, flash, bits}
 use Rattle.reference.specs.Acquire.{acquire, release, release_rest}
@@ -14,8 +15,8 @@ use Rattle.mixing.specs.Turns.{Both, turns, begun}
 
 -- the one that was done, then the other
 record Right (s : Both) (regs : ℕ → ℕ) : Type 0 where
-  pub first : s.talks lan0 ≡ end (ok (regs 5))
-  pub second : s.talks lan1 ≡ end (ok (regs 6))
+  pub first : s.talks lan0 ≡ end (Ok (regs 5))
+  pub second : s.talks lan1 ≡ end (Ok (regs 6))
   pub touches : s.touches ≡ record { by = lan1; word = regs 6 } ∷ record { by = lan0; word = regs 5 } ∷ []
 
 module _ (regs : ℕ → ℕ) where

@@ -1,4 +1,6 @@
 -- What a port may count on while the other port and the firmware go on, and what it owes them
+use Rattle.std.specs.Prelude.{Err, Ok}
+use Rattle.hardware.specs.Talk.{Talk, Res, end, ask, and_then, ◌>>=◌, attempt, pick, Reply}
 use Prim.Native.Nat.{ℕ, ◌^◌, ◌<◌}
 use mathlib.Core.Path.{◌≡◌, refl, sym, subst}
 use mathlib.Core.Bool.{Bool, true, false, not, ◌&&◌, ◌||◌}
@@ -7,12 +9,9 @@ use mathlib.Core.Option.{Option, none, some}
 use lib.Dec.{eqb}
 use lib.Bits.{bit_or}
 use Rattle.hardware.specs.Bits.{bit}
-use Rattle.hardware.specs.Talk.{Talk, Res, end, ask, and_then, ◌>>=◌, attempt, pick}
 use Rattle.hardware.specs.declared.Action.{Action}
 use Rattle.hardware.specs.declared.Action.TheVariants as action
 use Rattle.hardware.specs.declared.Family.{Family}
-use Rattle.hardware.specs.declared.Reply.{Reply}
-use Rattle.hardware.specs.declared.Reply.TheVariants as reply
 use Rattle.mixing.specs.Model.{Kind, is_swsm, is_sync, is_ctrl, is_data, is_other, kind, On, fw_bits}
 use Rattle.mixing.specs.System.{word}
 use Rattle.mixing.proofs.Only.{IsFar, only_end, only_ask, Quiet}
@@ -75,8 +74,8 @@ Need f W (action.Wait n) = Unit {0}
 
 -- the model's registers never fail
 abbrev pub Succeeds : (ℕ → Type 0) → Reply → Type 0
-Succeeds P (reply.Done v) = P v
-Succeeds P (reply.Failed v) = ⊥
+Succeeds P (Ok v) = P v
+Succeeds P (Err v) = ⊥
 
 abbrev pub MayRead : View → Kind → Reply → Type 0
 MayRead W is_swsm r = Succeeds (λ v. ((v ≡ 0) ⊎ (v ≡ 1)) × (W.smbi ≡ true → v ≡ 1)) r

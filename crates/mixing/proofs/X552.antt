@@ -1,25 +1,18 @@
 -- x552.rs and the Watch keep the rules
+use Rattle.std.specs.Prelude.{None, Option, Some}
+use Rattle.hardware.specs.Talk.{Call, is_clear, read}
 use Prim.Native.Nat.{ℕ, ◌/◌, ◌%◌, ◌^◌}
 use native.Mathlib.Omega.{arith}
 use mathlib.Core.Path.{refl}
 use mathlib.Core.Bool.{Bool, true, false}
-use mathlib.Core.Option.{none}
 use lib.Dec.{eqb}
-use Rattle.hardware.specs.Talk.{Call, is_clear, read}
 use Rattle.hardware.specs.declared.Family.{Family}
 use Rattle.hardware.specs.declared.Family.TheVariants.{X552, X553}
 use Rattle.hardware.specs.declared.Port.{Port}
 use Rattle.words.specs.Kr.{krm}
 use Rattle.words.specs.Link as words
-use Rattle.words.specs.declared.link.Megabits.{Megabits}
-use Rattle.words.specs.declared.link.Megabits.TheVariants as megabitsv
-use Rattle.words.specs.declared.phy.PhyId.{PhyId}
-use Rattle.words.specs.declared.phy.PhyId.TheVariants as phyidv
 use Rattle.answers.specs.declared.Internal.{Internal}
 use Rattle.answers.specs.declared.Internal.TheVariants.{Ixfi, Kr}
-use Rattle.answers.specs.declared.MaybeStatus.{MaybeStatus}
-use Rattle.answers.specs.declared.Scanned.{Scanned}
-use Rattle.answers.specs.declared.Scanned.TheVariants as scannedv
 use Rattle.answers.specs.declared.Speeds.{Speeds}
 use Rattle.answers.specs.declared.X557.{X557}
 use Rattle.reference.specs.Mdio.{changed}
@@ -93,13 +86,13 @@ module _ (port : Port) where
       (λ alarms. picks (is_clear alarms 3) (s_prepare_reset veto phy id sel false)
       (bind (s_modify port phy 0x1e 0xc479 _ _) (λ _. s_prepare_reset veto phy id sel true)))
 
-  s_probed : (veto : Bool) (sel phy : ℕ) (id : PhyId) → Sound f is_ok (prepare_probed port veto sel phy id)
-  s_probed veto sel phy phyidv.Nothing = ends
-  s_probed veto sel phy (phyidv.Id id) = s_found veto phy id sel
+  s_probed : (veto : Bool) (sel phy : ℕ) (id : Option ℕ) → Sound f is_ok (prepare_probed port veto sel phy id)
+  s_probed veto sel phy None = ends
+  s_probed veto sel phy (Some id) = s_found veto phy id sel
 
-  s_scanned : (veto : Bool) (sel : ℕ) (s : Scanned) → Sound f is_ok (prepare_scanned port veto sel s)
-  s_scanned veto sel scannedv.Nothing = ends
-  s_scanned veto sel (scannedv.At phy id) = s_found veto phy id sel
+  s_scanned : (veto : Bool) (sel : ℕ) (s : Option (ℕ × ℕ)) → Sound f is_ok (prepare_scanned port veto sel s)
+  s_scanned veto sel None = ends
+  s_scanned veto sel (Some (phy, id)) = s_found veto phy id sel
 
   pub s_prepare_copper : (veto : Bool) → Sound f is_ok (prepare_copper port veto)
   unfolding prepare_copper
@@ -149,7 +142,7 @@ module _ (pause : ℕ) (port : Port) where
       (λ _. bind s_restart (λ _. ends))))))
 
   s_copper_advertise : (veto : Bool) (x : X557) (s : Speeds) → Sound port.family is_ok (copper_advertise port veto x s)
-  s_copper_advertise veto x s = bind (s_advertise port x.phy s none veto) (λ restarted. ends)
+  s_copper_advertise veto x s = bind (s_advertise port x.phy s None veto) (λ restarted. ends)
 
   s_internal : (veto : Bool) (x : X557) (s : Speeds) (internal : Internal) → Sound port.family is_ok (copper_internal pause port veto x s internal)
   s_internal veto x s Kr = s_copper_advertise veto x s
@@ -178,12 +171,12 @@ module _ (pause : ℕ) (port : Port) where
   s_force reforced status megabits Kr = bind (s_autoneg true true) (λ _. ends)
   s_force reforced status megabits Ixfi = bind (s_ixfi (eqb megabits 10000)) (λ _. ends)
 
-  s_speed : (internal : Internal) (forced : MaybeStatus) (reforced status : ℕ) (m : Megabits)
+  s_speed : (internal : Internal) (forced : Option ℕ) (reforced status : ℕ) (m : Option ℕ)
       → Sound port.family is_ok (poll_speed pause port internal forced reforced status m)
-  s_speed internal forced reforced status megabitsv.Nothing = ends
-  s_speed internal forced reforced status (megabitsv.Is megabits) = picks (is_forced forced status) ends (s_force reforced status megabits internal)
+  s_speed internal forced reforced status None = ends
+  s_speed internal forced reforced status (Some megabits) = picks (is_forced forced status) ends (s_force reforced status megabits internal)
 
-  pub s_poll : (phy : ℕ) (internal : Internal) (forced : MaybeStatus) (reforced : ℕ) → Sound port.family is_ok (poll pause port phy internal forced reforced)
+  pub s_poll : (phy : ℕ) (internal : Internal) (forced : Option ℕ) (reforced : ℕ) → Sound port.family is_ok (poll pause port phy internal forced reforced)
   unfolding poll
   s_poll phy internal forced reforced =
       bind (s_an_link port phy)

@@ -1,13 +1,12 @@
 -- x553.rs keeps the rules
+use Rattle.std.specs.Prelude.{None, Option, Some}
+use Rattle.hardware.specs.Talk.{Call, is_clear}
 use Prim.Native.Nat.{ℕ}
 use mathlib.Core.Bool.{Bool, true, false, ◌||◌}
 use lib.Dec.{eqb}
-use Rattle.hardware.specs.Talk.{Call, is_clear}
 use Rattle.hardware.specs.declared.Port.{Port}
 use Rattle.words.specs.Kr.{krm}
 use Rattle.answers.specs.declared.FirmwarePhy.{FirmwarePhy}
-use Rattle.answers.specs.declared.MaybeWord.{MaybeWord}
-use Rattle.answers.specs.declared.MaybeWord.TheVariants as maybev
 use Rattle.reference.specs.X552 as x552
 use Rattle.reference.specs.X553.{
   firmware_phy,
@@ -73,13 +72,13 @@ module _ (port : Port) where
           picks (eqb port.device 0x15c8) (bind (s_prepare_copper port veto) (λ x. h (x557 x)))
           (picks (firmware_phy port.device) (bind (s_prepare_firmware veto) h) (h nothing))
 
-  s_down : (phy : FirmwarePhy) (internal : MaybeWord) → Sound port.family is_ok (firmware_down port phy internal)
+  s_down : (phy : FirmwarePhy) (internal : Option ℕ) → Sound port.family is_ok (firmware_down port phy internal)
   s_down phy internal = bind (s_activity port 4 1 0 0 0) (λ _. ends)
 
   s_linked : (phy : FirmwarePhy) (flx : ℕ) (down : Bool) → Sound port.family is_ok (firmware_linked port phy flx down)
   s_linked phy flx down =
-      picks down (s_down phy (maybev.Is flx))
-      (bind (s_activity port 3 0 0 0 0) (λ info. picks (is_clear info.w0 0x2000000) ends (s_down phy (maybev.Is flx))))
+      picks down (s_down phy (Some flx))
+      (bind (s_activity port 3 0 0 0 0) (λ info. picks (is_clear info.w0 0x2000000) ends (s_down phy (Some flx))))
 
 module _ (pause : ℕ) (port : Port) where
   s_sgmii : Sound port.family is_ok (sgmii pause port)
@@ -102,7 +101,7 @@ module _ (pause : ℕ) (port : Port) where
   s_firmware : (phy : FirmwarePhy) (down : Bool) → Sound port.family is_ok (setup_firmware pause port phy down)
   unfolding setup_firmware
   s_firmware phy down =
-      picks down (s_down port phy maybev.Nothing)
+      picks down (s_down port phy None)
       (bind s_sgmii_an (λ flx. bind (s_fw_link port phy.speeds) (λ d. s_linked port phy flx d)))
 
   s_setup_prepared : (veto : Bool) (p : Prepared) → Sound port.family is_ok (setup_prepared pause port veto p)

@@ -1,8 +1,7 @@
 -- An access done whole and alone: both semaphore words clear, never busy, no failure
-use Rattle.std.specs.Prelude.{ℕ, suc, ◌≡◌, false}
-use Rattle.hardware.specs.Talk.{Talk, end, ask, Res, ok}
+use Rattle.hardware.specs.Talk.{Talk, end, ask, Res}
+use Rattle.std.specs.Prelude.{ℕ, suc, ◌≡◌, false, Ok}
 use Rattle.hardware.specs.declared.Family.{Family}
-use Rattle.hardware.specs.declared.Reply.TheVariants as reply
 use Rattle.mixing.specs.Mixing.{feed}
 use Rattle.mixing.specs.Model.{Side, World, Chip, do_action}
 use Rattle.mixing.specs.System.{Access, reads, writes, Given, access_talk}
@@ -14,7 +13,7 @@ pub record Whole (A : Type 0) : Type 0 where
   pub left : ℕ → ℕ
 
 abbrev pub calm : ℕ → World
-calm v = record { busy = false; reply = reply.Done v }
+calm v = record { busy = false; reply = Ok v }
 
 -- a conversation from its start to its end; any other register answers what comes next in `will`
 unfoldable pub whole : {A : Type 0} → Family → Side → (ℕ → ℕ) → Chip → Talk A → Whole A
@@ -25,8 +24,8 @@ whole f p will c (ask a k) =
 
 -- what the table answers
 abbrev pub Answers : (x : Access) → (ℕ → ℕ) → Res (Given x) → Type 0
-Answers (reads who a) t r = r ≡ ok (t a)
-Answers (writes who a w) t r = r ≡ ok tt
+Answers (reads who a) t r = r ≡ Ok (t a)
+Answers (writes who a w) t r = r ≡ Ok tt
 
 -- it does to the KR registers just the table's step, and gives the table's answer
 pub record Alone (f : Family) (p : Side) (x : Access) (will : ℕ → ℕ) (c : Chip) : Type 0 where

@@ -1,12 +1,10 @@
 -- The code's conversations on the model's chip: begun as `begin` begins them, and moved as `step` moves them
-use Rattle.std.specs.Prelude.{ℕ, ◌≡◌, Bool, true, ◌&&◌, List, [], ◌∷◌, length}
+use Rattle.hardware.specs.Talk.{Talk, end, ask, and_then, pick, Reply}
+use Rattle.std.specs.Prelude.{ℕ, ◌≡◌, Bool, true, ◌&&◌, List, [], ◌∷◌, length, Err, Ok}
 use Rattle.std.proofs.Math.Option.{Option}
 use Rattle.hardware.specs.Refusal.{refusal}
-use Rattle.hardware.specs.Talk.{Talk, end, ask, and_then, pick}
 use Rattle.hardware.specs.declared.Family.{Family}
 use Rattle.hardware.specs.declared.Port.{Port}
-use Rattle.hardware.specs.declared.Reply.{Reply}
-use Rattle.hardware.specs.declared.Reply.TheVariants as reply
 use Rattle.reference.specs.Operations.{Out, operation}
 use Rattle.conversation.specs.Conversation.{Conv, opening, begun, step_talk}
 use Rattle.start.specs.Operation.{phy_of, device_of, op_of}
@@ -29,8 +27,8 @@ pub record Real : Type 0 where
 
 -- the first of the two words that `step` is handed
 abbrev pub kind_of : Reply → ℕ
-kind_of (reply.Done v) = 0
-kind_of (reply.Failed v) = 1
+kind_of (Ok v) = 0
+kind_of (Err v) = 1
 
 -- a step with the chip's reply to the action that is due
 abbrev pub steps : Family → Side → World → Real → Talk Out → Real

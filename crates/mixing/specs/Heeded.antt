@@ -1,12 +1,11 @@
 -- No error of acquire_bits or release_bits inside an operation is passed over: an answer that is no error means that the
 -- operation ended well in document 01's sense
-use Rattle.std.specs.Prelude.{ℕ, ◌≡◌, Bool, true, false}
-use Rattle.hardware.specs.Talk.{Talk, end, ask, and_then, Res, ok, err, Call}
+use Rattle.hardware.specs.Talk.{Talk, end, ask, and_then, Res, Call, Reply}
+use Rattle.std.specs.Prelude.{ℕ, ◌≡◌, Bool, true, false, Err, Ok}
 use Rattle.hardware.specs.declared.Action.{Action}
 use Rattle.hardware.specs.declared.Error.{Error}
 use Rattle.hardware.specs.declared.Family.{Family}
 use Rattle.hardware.specs.declared.Port.{Port}
-use Rattle.hardware.specs.declared.Reply.{Reply}
 use Rattle.reference.specs.Operations.{Op, Out, operation_with}
 use Rattle.reference.specs.Sync.{acquire_bits, release_bits}
 use Rattle.mixing.specs.Mixing.{takes}
@@ -39,7 +38,7 @@ pub data Heeds {A : Type 0} (f : Family) (well : A → Bool) : Talk A → Type 0
   heeds_end : {a : A} → Heeds f well (end a)
   heeds_ask : {a : Action} {c : Reply → Talk A} → On NotLock f a → ((r : Reply) → Heeds f well (c r)) → Heeds f well (ask a c)
   heeds_call : {t : Talk A} (x : LockCall) (k : Res (Unit {0}) → Talk A) → t ≡ and_then (lock_talk x) k
-      → Heeds f well (k (ok tt)) → ((e : Error) → Fails well (k (err e))) → Heeds f well t
+      → Heeds f well (k (Ok tt)) → ((e : Error) → Fails well (k (Err e))) → Heeds f well t
 
 abbrev pub ended_well : Out → Bool
 ended_well o = is_ok o.0

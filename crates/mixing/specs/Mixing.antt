@@ -1,8 +1,8 @@
 -- Demand 3: the KR table, and the statement
-use Rattle.std.specs.Prelude.{ℕ, ◌≡◌, refl, Bool, true, false, ◌&&◌, List, [], ◌∷◌}
+use Rattle.hardware.specs.Talk.{Talk, Res}
+use Rattle.std.specs.Prelude.{ℕ, ◌≡◌, refl, Bool, true, false, ◌&&◌, List, [], ◌∷◌, Err, Ok}
 use Rattle.std.proofs.Math.Option.{Option, none, some}
 use Rattle.hardware.specs.Refusal.{refusal}
-use Rattle.hardware.specs.Talk.{Talk, Res, ok, err}
 use Rattle.hardware.specs.declared.Family.{Family}
 use Rattle.hardware.specs.declared.Port.{Port}
 use Rattle.reference.specs.Bounds.{block_of}
@@ -29,8 +29,8 @@ RightTouch (writes who a w) t v = v ≡ w
 
 -- a read access that succeeded gave the word that it got from DATA
 abbrev pub RightGave : (x : Access) → Option ℕ → Res (Given x) → Type 0
-RightGave (reads who a) s (ok v) = s ≡ some v
-RightGave (reads who a) s (err e) = Unit {0}
+RightGave (reads who a) s (Ok v) = s ≡ some v
+RightGave (reads who a) s (Err e) = Unit {0}
 RightGave (writes who a w) s r = Unit {0}
 
 -- at each entry, with the table as it was then; an access touches DATA once

@@ -1,14 +1,12 @@
 -- Document 01's model for demand 3: the chip that two ports and the firmware share
-use Rattle.std.specs.Prelude.{ℕ, ◌-◌, ◌^◌, Bool, true, false, not, ◌&&◌, eqb, leb}
+use Rattle.hardware.specs.Talk.{pick, Reply}
+use Rattle.std.specs.Prelude.{ℕ, ◌-◌, ◌^◌, Bool, true, false, not, ◌&&◌, eqb, leb, Ok}
 use Rattle.std.specs.Int.Bits.{bit_and, bit_or}
 use Rattle.hardware.specs.Bits.{bit, without}
 use Rattle.hardware.specs.Regs.{regs}
-use Rattle.hardware.specs.Talk.{pick}
 use Rattle.hardware.specs.declared.Action.{Action}
 use Rattle.hardware.specs.declared.Action.TheVariants as action
 use Rattle.hardware.specs.declared.Family.{Family}
-use Rattle.hardware.specs.declared.Reply.{Reply}
-use Rattle.hardware.specs.declared.Reply.TheVariants as reply
 
 -- the ports of a chip
 pub data Side : Type 0 where
@@ -102,7 +100,7 @@ pub record Did : Type 0 where
   pub chip : Chip
 
 abbrev pub did : ℕ → Chip → Did
-did v c = record { reply = reply.Done v; chip = c }
+did v c = record { reply = Ok v; chip = c }
 
 abbrev pub do_read : Side → World → Chip → Kind → Did
 do_read p w c is_swsm = did c.swsm.value (with_swsm (taken (of_port p) 0 c.swsm) c)

@@ -1,13 +1,11 @@
 -- Two ports on one chip, and every list of events
-use Rattle.std.specs.Prelude.{ℕ, ◌≡◌, Bool, true, false, List, [], ◌∷◌}
+use Rattle.hardware.specs.Talk.{Talk, end, ask, and_then, Res, Reply}
+use Rattle.std.specs.Prelude.{ℕ, ◌≡◌, Bool, true, false, List, [], ◌∷◌, Err, Ok}
 use Rattle.std.proofs.Math.Option.{Option, none, some}
-use Rattle.hardware.specs.Talk.{Talk, end, ask, and_then, Res, ok, err}
 use Rattle.hardware.specs.declared.Action.{Action}
 use Rattle.hardware.specs.declared.Action.TheVariants as action
 use Rattle.hardware.specs.declared.Family.{Family}
 use Rattle.hardware.specs.declared.Port.{Port}
-use Rattle.hardware.specs.declared.Reply.{Reply}
-use Rattle.hardware.specs.declared.Reply.TheVariants as reply
 use Rattle.reference.specs.Operations.{Out}
 use Rattle.reference.specs.X552.{kr_read, kr_write}
 use Rattle.mixing.specs.Model.{
@@ -88,8 +86,8 @@ pub record Next (f : Family) : Type 0 where
   pub log : List Entry
 
 abbrev pub is_ok : {A : Type 0} → Res A → Bool
-is_ok (ok a) = true
-is_ok (err e) = false
+is_ok (Ok a) = true
+is_ok (Err e) = false
 
 abbrev pub ends_well : Bool → Bool → Bool
 ends_well true well = well
@@ -108,8 +106,8 @@ settle f well (other {a} {c} o m) l = record { state = out well a c o m; log = l
 settle f well (access x k e m) l = resume f well x none (access_talk f x) k m (λ r l'. settle f well (m r) l') l
 
 abbrev pub word : Reply → ℕ
-word (reply.Done v) = v
-word (reply.Failed v) = v
+word (Ok v) = v
+word (Err v) = v.0
 
 -- the word that an action read from DATA or wrote to it
 abbrev pub if_data : Kind → ℕ → Option ℕ

@@ -1,8 +1,8 @@
 -- Two conversations that take turns on the model's chip, with the touches of DATA on record. No theorem of demand 3 uses this:
 -- it is where must-fail/ tries faulty accesses in the place of the reference's
+use Rattle.hardware.specs.Talk.{Talk, end, ask, Res}
 use Rattle.std.specs.Prelude.{ℕ, zero, suc, List, [], ◌∷◌}
 use Rattle.std.proofs.Math.Option.{Option, none, some}
-use Rattle.hardware.specs.Talk.{Talk, end, ask, Res}
 use Rattle.hardware.specs.declared.Family.{Family}
 use Rattle.hardware.specs.declared.Family.TheVariants.{X552}
 use Rattle.reference.specs.X552.{kr_read}

@@ -1,11 +1,12 @@
 -- The beginnings: an operation's first job, and what comes after it, are the Rust's function
+use Rattle.std.specs.Prelude.{Err, Ok}
+use Rattle.hardware.specs.Talk.{Talk, Call, Res, end, ask, and_then, or_stop, ◌>>◌, pick, return}
 use Prim.Native.Nat.{ℕ}
 use mathlib.Core.Bool.{Bool, true, false}
 use mathlib.Core.List.{List, []}
-use mathlib.Core.Option.{none, some}
+use Rattle.std.specs.Prelude.{None, Some}
 use mathlib.Core.Path.{◌≡◌, refl, ap, sym, ◌∙◌, fun_ext}
 use lib.Dec.{eqb}
-use Rattle.hardware.specs.Talk.{Talk, Call, Res, ok, err, end, ask, and_then, or_stop, ◌>>◌, pick, return}
 use Rattle.hardware.specs.Block as blk
 use Rattle.hardware.specs.declared.Family.{Family}
 use Rattle.hardware.specs.declared.Family.TheVariants.{X552, X553}
@@ -27,8 +28,8 @@ use Rattle.phy.specs.Clock.{speed_at, clocked}
 use Rattle.operations.specs.After.{after_nothing, after_word, after_abilities, after_command}
 
 pub nothing_begun : (t : Call (Unit {0})) → and_then (no_word t) (λ p. after_nothing p.0) ≡ answer nothing t
-nothing_begun (end (ok _)) = refl
-nothing_begun (end (err e)) = refl
+nothing_begun (end (Ok _)) = refl
+nothing_begun (end (Err e)) = refl
 nothing_begun (ask a k) = ap (ask a) (fun_ext (λ r. nothing_begun (k r)))
 
 -- what it answers with, of a call's result
@@ -55,17 +56,17 @@ pub command_begun : (port : Port) (ws : List ℕ) (n : ℕ)
 command_begun port ws n = status_cut port ws (λ p. blk.or_stop (λ status. blk.return (value.Command status n)) p.0 p.1)
 
 last : (t : Call (Unit {0})) → t >> return tt ≡ t
-last (end (ok _)) = refl
-last (end (err e)) = refl
+last (end (Ok _)) = refl
+last (end (Err e)) = refl
 last (ask a k) = ap (ask a) (fun_ext (λ r. last (k r)))
 
 set_speed : (slow fast : Bool)
-    → pick slow (mdio_clock false >> return tt) (pick fast (mdio_clock true >> return tt) (return tt)) ≡ clocked (pick slow (some false) (pick fast (some true) none))
+    → pick slow (mdio_clock false >> return tt) (pick fast (mdio_clock true >> return tt) (return tt)) ≡ clocked (pick slow (Some false) (pick fast (Some true) None))
 set_speed true fast = last (mdio_clock false)
 set_speed false true = last (mdio_clock true)
 set_speed false false = refl
 
-slow_speed : (copper : Bool) → pick copper slow_mdio (return tt) ≡ clocked (pick copper (some false) none)
+slow_speed : (copper : Bool) → pick copper slow_mdio (return tt) ≡ clocked (pick copper (Some false) None)
 slow_speed true = refl
 slow_speed false = refl
 

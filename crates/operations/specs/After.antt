@@ -1,6 +1,8 @@
 -- What is left of an operation once its access has given a word, and the words of the host block that belong to it
+use Rattle.access.specs.declared.access.Job.{Job}
+use Rattle.hardware.specs.declared.Step.{Step}
+use Rattle.hardware.specs.Talk.{Talk, Res, end, or_stop, return}
 use Rattle.std.specs.Prelude.{ℕ, List, [], take}
-use Rattle.hardware.specs.Talk.{Talk, Res, end, and_then, or_stop, return}
 use Rattle.hardware.specs.Block.{keep}
 use Rattle.hardware.specs.Block as blk
 use Rattle.hardware.specs.declared.Port.{Port}
@@ -10,17 +12,15 @@ use Rattle.reference.specs.Mdio.{speeds_of}
 use Rattle.reference.specs.Operations.{Out, answer, nothing, poll_value}
 use Rattle.hostif.specs.Command.{status_of}
 use Rattle.hostif.specs.Token.{token_got}
-use Rattle.access.specs.Access.{job_talk}
+use Rattle.access.specs.Access.{told_job_by}
 use Rattle.activity.specs.Activity.{resume_activity}
 use Rattle.watch.specs.Poll.{resume_poll}
-use Rattle.bringup.specs.Answer.{answer_of}
 use Rattle.bringup.specs.Bringup.{resume_bringup}
 use Rattle.operations.specs.Kr.{resume_kr}
 use Rattle.operations.specs.Mdio.{resume_mdio}
 use Rattle.operations.specs.declared.After.{After}
+use Rattle.operations.specs.declared.Ended.{Ended}
 use Rattle.operations.specs.declared.After.TheVariants as after
-use Rattle.operations.specs.declared.AfterStep.{AfterStep}
-use Rattle.operations.specs.declared.AfterStep.TheVariants as afterstep
 
 abbrev pub after_nothing : Res ℕ → Talk Out
 after_nothing got = answer nothing (or_stop (λ _. return tt) got)
@@ -54,6 +54,9 @@ resume_after port (after.Kr s) got ws = resume_kr port s got
 resume_after port (after.Bringup veto s) got ws = keep (resume_bringup port veto s got ws) []
 resume_after port (after.Poll w s) got ws = answer poll_value (resume_poll port w s got)
 
-abbrev pub told_after : Port → List ℕ → AfterStep → Talk Out
-told_after port b (afterstep.Ask job s) = and_then (job_talk port job b) (λ p. resume_after port s p.0 p.1)
-told_after port b (afterstep.Done a words) = end (answer_of a, take words b)
+-- an operation's end, with the words of the block that belong to it
+abbrev pub out : List ℕ → Ended → Out
+out b e = (e.answer, take e.words b)
+
+abbrev pub told_after : Port → List ℕ → Step Job After Ended → Talk Out
+told_after port b = told_job_by (out b) port b (λ s got ws. resume_after port s got ws)

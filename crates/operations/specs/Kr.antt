@@ -1,6 +1,6 @@
 -- What is left of an operation of the KR registers once its access has given a word
-use Rattle.std.specs.Prelude.{ℕ}
 use Rattle.hardware.specs.Talk.{Talk, Res}
+use Rattle.std.specs.Prelude.{ℕ}
 use Rattle.hardware.specs.declared.Port.{Port}
 use Rattle.answers.specs.declared.Value.TheVariants as value
 use Rattle.reference.specs.Operations.{Out, answer}

@@ -6,7 +6,8 @@ pub mod registers;
 
 ghost use Rattle.std.specs.Prelude.{ℕ, List, [], ◌≡◌, take};
 ghost use Rattle.hardware.specs.Block.{keep};
-ghost use Rattle.hardware.specs.Told.{word_of};
+ghost use Rattle.hardware.specs.Talk.{end};
+ghost use Rattle.hardware.specs.declared.Port.{Port};
 ghost use Rattle.answers.specs.declared.Value.TheVariants as value;
 ghost use Rattle.reference.specs.Operations.{answer, poll_value};
 ghost use Rattle.hostif.specs.Token.{token_got};
@@ -18,13 +19,13 @@ ghost use Rattle.operations.specs.After.{after_abilities, after_command, after_l
 use crate::kr_registers::Kr;
 use crate::registers::Mdio;
 use access::access::Job;
-use activity::{Activity, ActivityStep, Asked, Found};
-use answers::{Answer, Value};
-use bringup::{Bringup, BringupStep};
-use hardware::{Port, Word};
-use hostif::token::{Flag, Token};
+use activity::{Activity, Asked};
+use answers::{Value, Words};
+use bringup::Bringup;
+use hardware::{Error, Port, Step};
+use hostif::token::Token;
 use phy::abilities::speeds_of;
-use watch::poll::{Poll, PollStep, Polled};
+use watch::poll::{Poll, Polled};
 use watch::store::Watch;
 use words::link::Link;
 
@@ -50,129 +51,131 @@ pub enum After {
     Poll(Watch, Poll),
 }
 
-// Done: the answer, and how many words of the host block belong to it.
+// An operation's end: the answer, and how many words of the host block belong to it.
 #[derive(Clone, Copy)]
-pub enum AfterStep {
-    Ask(Job, After),
-    Done(Answer, usize),
+pub struct Ended {
+    pub answer: Result<Value, Error>,
+    pub words: usize,
 }
 
 impl After {
-    pub fn nothing(port: Port, got: Word) -> AfterStep
-        ensures { (b : List ℕ) → told_after port b result ≡ after_nothing (word_of got) }
+    // An answer with no words of the block.
+    pub fn plain(answer: Result<Value, Error>) -> Step<Job, After, Ended>
+        ensures { (port : Port) (b : List ℕ) → told_after port b result ≡ end (answer, []) }
     {
-        match got {
-            Word::Err(e) => AfterStep::Done(Answer::Err(e), 0),
-            Word::Ok(_) => AfterStep::Done(Answer::Ok(Value::Nothing), 0),
-        }
+        Step::Done(Ended { answer, words: 0 })
     }
 
-    pub fn word(port: Port, got: Word) -> AfterStep
-        ensures { (b : List ℕ) → told_after port b result ≡ after_word (word_of got) }
+    pub fn nothing(port: Port, got: Result<u32, Error>) -> Step<Job, After, Ended>
+        ensures { (b : List ℕ) → told_after port b result ≡ after_nothing got }
     {
-        match got {
-            Word::Err(e) => AfterStep::Done(Answer::Err(e), 0),
-            Word::Ok(v) => AfterStep::Done(Answer::Ok(Value::Word(v)), 0),
-        }
+        After::plain(got.map(|_| Value::Nothing))
     }
 
-    fn veto(port: Port, got: Word) -> AfterStep
-        ensures { (b : List ℕ) → told_after port b result ≡ after_veto (word_of got) }
+    pub fn word(port: Port, got: Result<u32, Error>) -> Step<Job, After, Ended>
+        ensures { (b : List ℕ) → told_after port b result ≡ after_word got }
     {
-        match got {
-            Word::Err(e) => AfterStep::Done(Answer::Err(e), 0),
-            Word::Ok(v) => AfterStep::Done(Answer::Ok(Value::Flag(v & 1 != 0)), 0),
-        }
+        After::plain(got.map(|v| Value::Word(v)))
     }
 
-    fn link(port: Port, got: Word) -> AfterStep
-        ensures { (b : List ℕ) → told_after port b result ≡ after_link port (word_of got) }
+    fn veto(port: Port, got: Result<u32, Error>) -> Step<Job, After, Ended>
+        ensures { (b : List ℕ) → told_after port b result ≡ after_veto got }
+    {
+        After::plain(got.map(|v| Value::Flag(v & 1 != 0)))
+    }
+
+    #[tactic(auto, using(reference::proofs::Hardware::linked_document))]
+    fn link(port: Port, got: Result<u32, Error>) -> Step<Job, After, Ended>
+        ensures { (b : List ℕ) → told_after port b result ≡ after_link port got }
     {
         let family = port.family;
-        match got {
-            Word::Err(e) => AfterStep::Done(Answer::Err(e), 0),
-            Word::Ok(v) => AfterStep::Done(Answer::Ok(Value::Link(Link::of(family, v))), 0),
-        }
+        After::plain(got.map(|v| Value::Link(Link::of(family, v))))
     }
 
-    fn abilities(port: Port, got: Word) -> AfterStep
-        ensures { (b : List ℕ) → told_after port b result ≡ after_abilities (word_of got) }
+    fn abilities(port: Port, got: Result<u32, Error>) -> Step<Job, After, Ended>
+        ensures { (b : List ℕ) → told_after port b result ≡ after_abilities got }
     {
-        match got {
-            Word::Err(e) => AfterStep::Done(Answer::Err(e), 0),
-            Word::Ok(v) => AfterStep::Done(Answer::Ok(Value::Abilities(speeds_of(v))), 0),
-        }
+        After::plain(got.map(|v| Value::Abilities(speeds_of(v))))
     }
 
     // The words are those of the block, after an error too.
-    fn command(port: Port, n: u32, got: Word, words: usize) -> AfterStep
-        ensures { (b : List ℕ) → told_after port b result ≡ after_command n (word_of got) (take words b) }
+    fn command(port: Port, n: u32, got: Result<u32, Error>, words: usize) -> Step<Job, After, Ended>
+        ensures { (b : List ℕ) → told_after port b result ≡ after_command n got (take words b) }
     {
-        match got {
-            Word::Err(e) => AfterStep::Done(Answer::Err(e), words),
-            Word::Ok(v) => {
-                let status = (v % 256) as u8;
-                AfterStep::Done(Answer::Ok(Value::Command { status, words: n }), words)
-            }
-        }
+        let answer = got.map(|v| Value::Command {
+            status: (v % 256) as u8,
+            words: n,
+        });
+        Step::Done(Ended { answer, words })
     }
 
-    fn token(port: Port, take: bool, got: Word) -> AfterStep
-        ensures { (b : List ℕ) → told_after port b result ≡ answer value.Flag (token_got take (word_of got)) }
+    fn token(port: Port, take: bool, got: Result<u32, Error>) -> Step<Job, After, Ended>
+        ensures { (b : List ℕ) → told_after port b result ≡ answer value.Flag (token_got take got) }
     {
         let token = Token { take };
-        match token.answered(got) {
-            Flag::Err(e) => AfterStep::Done(Answer::Err(e), 0),
-            Flag::Ok(v) => AfterStep::Done(Answer::Ok(Value::Flag(v)), 0),
-        }
+        After::plain(token.answered(got).map(|v| Value::Flag(v)))
     }
 
-    pub fn activity(port: Port, asked: Asked, step: ActivityStep) -> AfterStep
+    #[tactic(auto, using(hardware::proofs::Laws::then_assoc))]
+    pub fn activity(
+        port: Port,
+        asked: Asked,
+        step: Step<Job, Activity, Result<Words, Error>>,
+    ) -> Step<Job, After, Ended>
         ensures { (b : List ℕ) → told_after port b result ≡ answer value.Activity (told_activity port asked b step) }
     {
         match step {
-            ActivityStep::Ask(job, s) => AfterStep::Ask(job, After::Activity(asked, s)),
-            ActivityStep::Done(r) => match r {
-                Found::Err(e) => AfterStep::Done(Answer::Err(e), 0),
-                Found::Ok(v) => AfterStep::Done(Answer::Ok(Value::Activity(v)), 0),
-            },
+            Step::Ask(job, s) => Step::Ask(job, After::Activity(asked, s)),
+            Step::Done(r) => After::plain(r.map(|v| Value::Activity(v))),
         }
     }
 
-    pub fn bringup(port: Port, veto: bool, step: BringupStep) -> AfterStep
+    #[tactic(auto, using(hardware::proofs::Laws::then_assoc))]
+    pub fn bringup(
+        port: Port,
+        veto: bool,
+        step: Step<Job, Bringup, Result<Value, Error>>,
+    ) -> Step<Job, After, Ended>
         ensures { (b : List ℕ) → told_after port b result ≡ keep (told_bringup port veto b step) [] }
     {
         match step {
-            BringupStep::Ask(job, s) => AfterStep::Ask(job, After::Bringup(veto, s)),
-            BringupStep::Done(answer) => AfterStep::Done(answer, 0),
+            Step::Ask(job, s) => Step::Ask(job, After::Bringup(veto, s)),
+            Step::Done(answer) => After::plain(answer),
         }
     }
 
-    pub fn poll(port: Port, watch: Watch, step: PollStep) -> AfterStep
+    #[tactic(auto, using(hardware::proofs::Laws::then_assoc))]
+    pub fn poll(
+        port: Port,
+        watch: Watch,
+        step: Step<Job, Poll, Result<Polled, Error>>,
+    ) -> Step<Job, After, Ended>
         ensures { (b : List ℕ) → told_after port b result ≡ answer poll_value (told_poll port watch b step) }
     {
         match step {
-            PollStep::Ask(job, s) => AfterStep::Ask(job, After::Poll(watch, s)),
-            PollStep::Done(r) => match r {
-                Polled::Err(e) => AfterStep::Done(Answer::Err(e), 0),
-                Polled::Ok(copper, left) => {
-                    let forced = left.forced;
-                    let reforced = left.reforced;
-                    AfterStep::Done(
-                        Answer::Ok(Value::Poll {
-                            copper,
-                            forced,
-                            reforced,
-                        }),
-                        0,
-                    )
+            Step::Ask(job, s) => Step::Ask(job, After::Poll(watch, s)),
+            Step::Done(r) => match r {
+                Err(e) => After::plain(Err(e)),
+                Ok(polled) => {
+                    let left = polled.left;
+                    After::plain(Ok(Value::Poll {
+                        copper: polled.copper,
+                        forced: left.forced,
+                        reforced: left.reforced,
+                    }))
                 }
             },
         }
     }
 
-    pub fn next(self, port: Port, block: &mut [u32; 16], got: Word, words: usize) -> AfterStep
-        ensures { told_after port block.new result ≡ resume_after port self (word_of got) (take words block.old) }
+    pub fn next(
+        self,
+        port: Port,
+        block: &mut [u32; 16],
+        got: Result<u32, Error>,
+        words: usize,
+    ) -> Step<Job, After, Ended>
+        ensures { told_after port block.new result ≡ resume_after port self got (take words block.old) }
     {
         match self {
             After::Nothing => After::nothing(port, got),

@@ -18,9 +18,10 @@ use Rattle.access.specs.declared.locked.HoldPlace.TheVariants as hold_placev
 use Rattle.access.specs.declared.locked.HoldPlace.{HoldPlace}
 use Rattle.access.specs.declared.locked.Locked.TheVariants as lockedv
 use Rattle.access.specs.declared.locked.Locked.{Locked}
-use Rattle.packed_access.specs.Hardware.{get_unit, get_word, words_unit, words_word}
-use Rattle.packed_access.specs.Hostif.{get_command, get_flag, words_command, words_flag}
+use Rattle.packed_access.specs.Hardware.{get_error, words_error}
+use Rattle.packed_access.specs.Hostif.{get_command, words_command}
 use Rattle.packed_access.specs.Mdio.{get_mdio, get_wanted, words_mdio, words_wanted}
+use Rattle.packed_access.specs.Packed.{get_flag, get_nothing, get_result, get_word, words_flag, words_nothing, words_result, words_word}
 use Rattle.packed_access.specs.Sideband.{get_kr, get_kr_wanted, get_nvm, words_kr, words_kr_wanted, words_nvm}
 use Rattle.packed_access.specs.Sync.{get_sync, words_sync}
 
@@ -40,27 +41,27 @@ get_held s =
 unfoldable pub words_hold_place : HoldPlace → List ℕ
 words_hold_place hold_placev.Alone = 1 ∷ replicate 6 0
 words_hold_place (hold_placev.Acquiring held) = 2 ∷ (words_held held) ++ (replicate 2 0)
-words_hold_place (hold_placev.Releasing x) = 3 ∷ words_word x
+words_hold_place (hold_placev.Releasing word_or_error) = 3 ∷ words_result 1 5 words_word words_error word_or_error
 
 unfoldable pub get_hold_place : List ℕ → HoldPlace
 get_hold_place s =
     pick (eqb (word_at s 0) 1) (hold_placev.Alone) (
     pick (eqb (word_at s 0) 2) (hold_placev.Acquiring (get_held (drop 1 s))) (
-    hold_placev.Releasing (get_word (drop 1 s))))
+    hold_placev.Releasing (get_result get_word get_error (drop 1 s))))
 
 -- 8 words
 unfoldable pub words_bits_place : BitsPlace → List ℕ
 words_bits_place bits_placev.Plain = 1 ∷ replicate 7 0
 words_bits_place (bits_placev.Taking x) = 2 ∷ x ∷ replicate 6 0
-words_bits_place (bits_placev.Freeing x y) = 3 ∷ x ∷ words_flag y
-words_bits_place (bits_placev.Giving unit) = 4 ∷ (words_unit unit) ++ (0 ∷ [])
+words_bits_place (bits_placev.Freeing x flag_or_error) = 3 ∷ x ∷ words_result 1 5 words_flag words_error flag_or_error
+words_bits_place (bits_placev.Giving nothing_or_error) = 4 ∷ (words_result 0 5 words_nothing words_error nothing_or_error) ++ (0 ∷ [])
 
 unfoldable pub get_bits_place : List ℕ → BitsPlace
 get_bits_place s =
     pick (eqb (word_at s 0) 1) (bits_placev.Plain) (
     pick (eqb (word_at s 0) 2) (bits_placev.Taking (word_at s 1)) (
-    pick (eqb (word_at s 0) 3) (bits_placev.Freeing (word_at s 1) (get_flag (drop 2 s))) (
-    bits_placev.Giving (get_unit (drop 1 s)))))
+    pick (eqb (word_at s 0) 3) (bits_placev.Freeing (word_at s 1) (get_result get_flag get_error (drop 2 s))) (
+    bits_placev.Giving (get_result get_nothing get_error (drop 1 s)))))
 
 -- 2 words
 unfoldable pub words_token_place : TokenPlace → List ℕ

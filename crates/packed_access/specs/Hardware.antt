@@ -1,5 +1,5 @@
 -- The words of hardware's states: a kind from 1 on, its numbers, its parts, and zeros up to the type's width
-use Rattle.std.specs.Prelude.{ℕ, ◌%◌, List, [], ◌∷◌, eqb, drop, replicate}
+use Rattle.std.specs.Prelude.{◌≡◌, refl, length, ℕ, ◌%◌, List, [], ◌∷◌, eqb, replicate}
 use Rattle.hardware.specs.Talk.{pick}
 use Rattle.packed_access.specs.Tape.{word_at}
 use Rattle.hardware.specs.declared.Action.TheVariants as actionv
@@ -8,10 +8,6 @@ use Rattle.hardware.specs.declared.Error.TheVariants as errorv
 use Rattle.hardware.specs.declared.Error.{Error}
 use Rattle.hardware.specs.declared.Family.TheVariants as familyv
 use Rattle.hardware.specs.declared.Family.{Family}
-use Rattle.hardware.specs.declared.Unit.TheVariants as unitv
-use Rattle.hardware.specs.declared.Unit.{Unit}
-use Rattle.hardware.specs.declared.Word.TheVariants as wordv
-use Rattle.hardware.specs.declared.Word.{Word}
 
 -- 5 words
 unfoldable pub words_error : Error → List ℕ
@@ -45,6 +41,22 @@ get_error s =
     pick (eqb (word_at s 0) 12) (errorv.Address) (
     errorv.Block))))))))))))
 
+pub error_length : (s : Error) → length (words_error s) ≡ 5
+unfolding words_error
+error_length (errorv.Io x0) = refl
+error_length errorv.Removed = refl
+error_length (errorv.Timeout x0 x1 x2 x3) = refl
+error_length (errorv.Sideband x0 x1) = refl
+error_length (errorv.Semaphore x0) = refl
+error_length (errorv.HostInterface x0) = refl
+error_length (errorv.Firmware x0 x1) = refl
+error_length errorv.NoPhy = refl
+error_length errorv.PhyReset = refl
+error_length errorv.Lan = refl
+error_length errorv.Fiber = refl
+error_length errorv.Address = refl
+error_length errorv.Block = refl
+
 -- 3 words
 unfoldable pub words_action : Action → List ℕ
 words_action (actionv.Read x) = 1 ∷ x ∷ 0 ∷ []
@@ -66,23 +78,3 @@ unfoldable pub get_family : List ℕ → Family
 get_family s =
     pick (eqb (word_at s 0) 1) (familyv.X552) (
     familyv.X553)
-
--- 6 words
-unfoldable pub words_word : Word → List ℕ
-words_word (wordv.Ok x) = 1 ∷ x ∷ replicate 4 0
-words_word (wordv.Err error) = 2 ∷ words_error error
-
-unfoldable pub get_word : List ℕ → Word
-get_word s =
-    pick (eqb (word_at s 0) 1) (wordv.Ok (word_at s 1)) (
-    wordv.Err (get_error (drop 1 s)))
-
--- 6 words
-unfoldable pub words_unit : Unit → List ℕ
-words_unit unitv.Ok = 1 ∷ replicate 5 0
-words_unit (unitv.Err error) = 2 ∷ words_error error
-
-unfoldable pub get_unit : List ℕ → Unit
-get_unit s =
-    pick (eqb (word_at s 0) 1) (unitv.Ok) (
-    unitv.Err (get_error (drop 1 s)))

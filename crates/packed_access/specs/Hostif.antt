@@ -1,7 +1,7 @@
 -- The words of hostif's states: a kind from 1 on, its numbers, its parts, and zeros up to the type's width
 use Rattle.std.specs.Prelude.{ℕ, ◌%◌, ◌/◌, List, [], ◌∷◌, ◌++◌, eqb, drop, replicate}
 use Rattle.hardware.specs.Talk.{pick}
-use Rattle.packed_access.specs.Tape.{word_at, is, flag_of, joined}
+use Rattle.packed_access.specs.Tape.{word_at, joined}
 use Rattle.hostif.specs.declared.command.Command.TheVariants as commandv
 use Rattle.hostif.specs.declared.command.Command.{Command}
 use Rattle.hostif.specs.declared.command.CommandPlace.TheVariants as command_placev
@@ -10,20 +10,19 @@ use Rattle.hostif.specs.declared.exchange.Exchange.TheVariants as exchangev
 use Rattle.hostif.specs.declared.exchange.Exchange.{Exchange}
 use Rattle.hostif.specs.declared.post.Post.TheVariants as postv
 use Rattle.hostif.specs.declared.post.Post.{Post}
-use Rattle.hostif.specs.declared.token.Flag.TheVariants as flagv
-use Rattle.hostif.specs.declared.token.Flag.{Flag}
-use Rattle.packed_access.specs.Hardware.{get_error, get_word, words_error, words_word}
+use Rattle.packed_access.specs.Hardware.{get_error, words_error}
+use Rattle.packed_access.specs.Packed.{get_result, get_word, words_result, words_word}
 use Rattle.packed_access.specs.Sync.{get_sync, words_sync}
 
 -- 7 words
 unfoldable pub words_command_place : CommandPlace → List ℕ
 words_command_place command_placev.Acquiring = 1 ∷ replicate 6 0
-words_command_place (command_placev.Releasing x) = 2 ∷ words_word x
+words_command_place (command_placev.Releasing word_or_error) = 2 ∷ words_result 1 5 words_word words_error word_or_error
 
 unfoldable pub get_command_place : List ℕ → CommandPlace
 get_command_place s =
     pick (eqb (word_at s 0) 1) (command_placev.Acquiring) (
-    command_placev.Releasing (get_word (drop 1 s)))
+    command_placev.Releasing (get_result get_word get_error (drop 1 s)))
 
 -- 4 words
 unfoldable pub words_post : Post → List ℕ
@@ -66,13 +65,3 @@ unfoldable pub get_command : List ℕ → Command
 get_command s =
     pick (eqb (word_at s 0) 1) (commandv.Sync (get_command_place (drop 1 s)) (get_sync (drop 8 s))) (
     commandv.Body (get_exchange (drop 1 s)))
-
--- 6 words
-unfoldable pub words_flag : Flag → List ℕ
-words_flag (flagv.Ok x) = 1 ∷ (flag_of x) ∷ replicate 4 0
-words_flag (flagv.Err error) = 2 ∷ words_error error
-
-unfoldable pub get_flag : List ℕ → Flag
-get_flag s =
-    pick (eqb (word_at s 0) 1) (flagv.Ok (is (word_at s 1))) (
-    flagv.Err (get_error (drop 1 s)))

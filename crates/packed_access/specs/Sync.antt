@@ -2,7 +2,8 @@
 use Rattle.std.specs.Prelude.{ℕ, List, [], ◌∷◌, ◌++◌, eqb, drop, replicate}
 use Rattle.hardware.specs.Talk.{pick}
 use Rattle.packed_access.specs.Tape.{word_at, is, flag_of}
-use Rattle.packed_access.specs.Hardware.{get_unit, words_unit}
+use Rattle.packed_access.specs.Hardware.{get_error, words_error}
+use Rattle.packed_access.specs.Packed.{get_nothing, get_result, words_nothing, words_result}
 use Rattle.sync.specs.declared.acquire_bits.AcquireBits.TheVariants as acquire_bitsv
 use Rattle.sync.specs.declared.acquire_bits.AcquireBits.{AcquireBits}
 use Rattle.sync.specs.declared.lock.Clear.TheVariants as clearv
@@ -85,7 +86,7 @@ unfoldable pub words_acquire_bits : AcquireBits → List ℕ
 words_acquire_bits (acquire_bitsv.Locking x lock) = 1 ∷ x ∷ (words_lock lock) ++ (replicate 4 0)
 words_acquire_bits (acquire_bitsv.Reading x) = 2 ∷ x ∷ replicate 7 0
 words_acquire_bits acquire_bitsv.Writing = 3 ∷ replicate 8 0
-words_acquire_bits (acquire_bitsv.Ending unit unlock) = 4 ∷ (words_unit unit) ++ (words_unlock unlock)
+words_acquire_bits (acquire_bitsv.Ending nothing_or_error unlock) = 4 ∷ (words_result 0 5 words_nothing words_error nothing_or_error) ++ (words_unlock unlock)
 words_acquire_bits (acquire_bitsv.Held x y unlock) = 5 ∷ x ∷ y ∷ (words_unlock unlock) ++ (replicate 4 0)
 words_acquire_bits (acquire_bitsv.Waiting x y) = 6 ∷ x ∷ y ∷ replicate 6 0
 words_acquire_bits (acquire_bitsv.Switching set_mux) = 7 ∷ (words_set_mux set_mux) ++ (replicate 7 0)
@@ -95,7 +96,7 @@ get_acquire_bits s =
     pick (eqb (word_at s 0) 1) (acquire_bitsv.Locking (word_at s 1) (get_lock (drop 2 s))) (
     pick (eqb (word_at s 0) 2) (acquire_bitsv.Reading (word_at s 1)) (
     pick (eqb (word_at s 0) 3) (acquire_bitsv.Writing) (
-    pick (eqb (word_at s 0) 4) (acquire_bitsv.Ending (get_unit (drop 1 s)) (get_unlock (drop 7 s))) (
+    pick (eqb (word_at s 0) 4) (acquire_bitsv.Ending (get_result get_nothing get_error (drop 1 s)) (get_unlock (drop 7 s))) (
     pick (eqb (word_at s 0) 5) (acquire_bitsv.Held (word_at s 1) (word_at s 2) (get_unlock (drop 3 s))) (
     pick (eqb (word_at s 0) 6) (acquire_bitsv.Waiting (word_at s 1) (word_at s 2)) (
     acquire_bitsv.Switching (get_set_mux (drop 1 s))))))))
@@ -105,7 +106,7 @@ unfoldable pub words_release_bits : ReleaseBits → List ℕ
 words_release_bits (release_bitsv.Switching set_mux) = 1 ∷ (words_set_mux set_mux) ++ (replicate 7 0)
 words_release_bits (release_bitsv.Locking lock) = 2 ∷ (words_lock lock) ++ (replicate 5 0)
 words_release_bits (release_bitsv.Clearing clear) = 3 ∷ (words_clear clear) ++ (replicate 7 0)
-words_release_bits (release_bitsv.Unlocking unit unlock) = 4 ∷ (words_unit unit) ++ (words_unlock unlock)
+words_release_bits (release_bitsv.Unlocking nothing_or_error unlock) = 4 ∷ (words_result 0 5 words_nothing words_error nothing_or_error) ++ (words_unlock unlock)
 words_release_bits release_bitsv.Waiting = 5 ∷ replicate 8 0
 
 unfoldable pub get_release_bits : List ℕ → ReleaseBits
@@ -113,7 +114,7 @@ get_release_bits s =
     pick (eqb (word_at s 0) 1) (release_bitsv.Switching (get_set_mux (drop 1 s))) (
     pick (eqb (word_at s 0) 2) (release_bitsv.Locking (get_lock (drop 1 s))) (
     pick (eqb (word_at s 0) 3) (release_bitsv.Clearing (get_clear (drop 1 s))) (
-    pick (eqb (word_at s 0) 4) (release_bitsv.Unlocking (get_unit (drop 1 s)) (get_unlock (drop 7 s))) (
+    pick (eqb (word_at s 0) 4) (release_bitsv.Unlocking (get_result get_nothing get_error (drop 1 s)) (get_unlock (drop 7 s))) (
     release_bitsv.Waiting))))
 
 -- 13 words

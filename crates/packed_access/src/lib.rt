@@ -7,5 +7,6 @@ pub mod p_hostif;
 pub mod p_mdio;
 pub mod p_sideband;
 pub mod p_sync;
+pub mod packed;
 pub mod read;
 pub mod tape;

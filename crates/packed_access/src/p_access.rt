@@ -3,11 +3,11 @@ ghost use Rattle.std.specs.Prelude.{◌≡◌, ℕ, List, ◌++◌, drop};
 ghost use Rattle.packed_access.specs.Tape.{Adds};
 ghost use Rattle.packed_access.specs.Access.{get_access, get_bits_place, get_body, get_held, get_hold, get_hold_place, get_locked, get_token_place, words_access, words_bits_place, words_body, words_held, words_hold, words_hold_place, words_locked, words_token_place};
 
-use crate::p_hardware::{get_unit, get_word, put_unit, put_word};
-use crate::p_hostif::{get_command, get_flag, put_command, put_flag};
+use crate::p_hostif::{get_command, put_command};
 use crate::p_mdio::{get_mdio, get_wanted, put_mdio, put_wanted};
 use crate::p_sideband::{get_kr, get_kr_wanted, get_nvm, put_kr, put_kr_wanted, put_nvm};
 use crate::p_sync::{get_sync, put_sync};
+use crate::packed::Packed;
 use crate::read::{after, half, joined, word_at};
 use crate::tape::{long, wide, word, zeros};
 use access::access::Access;
@@ -64,9 +64,9 @@ pub fn put_hold_place(tape: &mut [u32; 65], at: usize, s: HoldPlace) -> usize
             let at = put_held(tape, at, held);
             zeros(tape, at, 2)
         },
-        HoldPlace::Releasing(x) => {
+        HoldPlace::Releasing(word_or_error) => {
             let at = word(tape, at, 3);
-            put_word(tape, at, x)
+            word_or_error.put(tape, at)
         },
     }
 }
@@ -81,7 +81,7 @@ pub fn get_hold_place(words: &[u32], at: usize) -> HoldPlace
     } else if kind == 2 {
         HoldPlace::Acquiring(get_held(words, after(words, at, 1)))
     } else {
-        HoldPlace::Releasing(get_word(words, after(words, at, 1)))
+        HoldPlace::Releasing(Result::get(words, after(words, at, 1)))
     }
 }
 
@@ -99,14 +99,14 @@ pub fn put_bits_place(tape: &mut [u32; 65], at: usize, s: BitsPlace) -> usize
             let at = word(tape, at, x);
             zeros(tape, at, 6)
         },
-        BitsPlace::Freeing(x, y) => {
+        BitsPlace::Freeing(x, flag_or_error) => {
             let at = word(tape, at, 3);
             let at = word(tape, at, x);
-            put_flag(tape, at, y)
+            flag_or_error.put(tape, at)
         },
-        BitsPlace::Giving(unit) => {
+        BitsPlace::Giving(nothing_or_error) => {
             let at = word(tape, at, 4);
-            let at = put_unit(tape, at, unit);
+            let at = nothing_or_error.put(tape, at);
             word(tape, at, 0)
         },
     }
@@ -122,9 +122,12 @@ pub fn get_bits_place(words: &[u32], at: usize) -> BitsPlace
     } else if kind == 2 {
         BitsPlace::Taking(word_at(words, at, 1))
     } else if kind == 3 {
-        BitsPlace::Freeing(word_at(words, at, 1), get_flag(words, after(words, at, 2)))
+        BitsPlace::Freeing(
+            word_at(words, at, 1),
+            Result::get(words, after(words, at, 2)),
+        )
     } else {
-        BitsPlace::Giving(get_unit(words, after(words, at, 1)))
+        BitsPlace::Giving(Result::get(words, after(words, at, 1)))
     }
 }
 

@@ -1,134 +1,146 @@
 // The states of hardware as words, and back.
 ghost use Rattle.std.specs.Prelude.{◌≡◌, ℕ, List, ◌++◌, drop};
 ghost use Rattle.packed_access.specs.Tape.{Adds};
-ghost use Rattle.packed_access.specs.Hardware.{get_action, get_error, get_family, get_unit, get_word, words_action, words_error, words_family, words_unit, words_word};
+ghost use Rattle.packed_access.specs.Hardware.{error_length, get_action, get_error, get_family, words_action, words_error, words_family};
 
-use crate::read::{after, byte, word_at};
+use crate::packed::{Packed, Part};
+use crate::read::{byte, word_at};
 use crate::tape::{wide_byte, word, zeros};
-use hardware::{Action, Error, Family, Unit, Word};
+use hardware::{Action, Error, Family};
 
-pub fn put_error(tape: &mut [u32; 65], at: usize, s: Error) -> usize
-    ensures adds { Adds at tape.old (words_error s) result tape.new }
-    ensures back { (rest : List ℕ) → get_error (words_error s ++ rest) ≡ s }
-{
-    match s {
-        Error::Io(x) => {
-            let at = word(tape, at, 1);
-            let at = word(tape, at, x);
-            zeros(tape, at, 3)
-        },
-        Error::Removed => {
-            let at = word(tape, at, 2);
-            zeros(tape, at, 4)
-        },
-        Error::Timeout {
-            register,
-            mask,
-            expected,
-            last,
-        } => {
-            let at = word(tape, at, 3);
-            let at = word(tape, at, register);
-            let at = word(tape, at, mask);
-            let at = word(tape, at, expected);
-            word(tape, at, last)
-        },
-        Error::Sideband { address, ctrl } => {
-            let at = word(tape, at, 4);
-            let at = word(tape, at, address);
-            let at = word(tape, at, ctrl);
-            zeros(tape, at, 2)
-        },
-        Error::Semaphore { held } => {
-            let at = word(tape, at, 5);
-            let at = word(tape, at, held);
-            zeros(tape, at, 3)
-        },
-        Error::HostInterface { hicr } => {
-            let at = word(tape, at, 6);
-            let at = word(tape, at, hicr);
-            zeros(tape, at, 3)
-        },
-        Error::Firmware { command, status } => {
-            let at = word(tape, at, 7);
-            let at = word(tape, at, wide_byte(command));
-            let at = word(tape, at, wide_byte(status));
-            zeros(tape, at, 2)
-        },
-        Error::NoPhy => {
-            let at = word(tape, at, 8);
-            zeros(tape, at, 4)
-        },
-        Error::PhyReset => {
-            let at = word(tape, at, 9);
-            zeros(tape, at, 4)
-        },
-        Error::Lan => {
-            let at = word(tape, at, 10);
-            zeros(tape, at, 4)
-        },
-        Error::Fiber => {
-            let at = word(tape, at, 11);
-            zeros(tape, at, 4)
-        },
-        Error::Address => {
-            let at = word(tape, at, 12);
-            zeros(tape, at, 4)
-        },
-        Error::Block => {
-            let at = word(tape, at, 13);
-            zeros(tape, at, 4)
-        },
+impl Packed for Error {
+    ghost words = { words_error };
+
+    ghost read = { get_error };
+
+    fn put(self, tape: &mut [u32; 65], at: usize) -> usize {
+        match self {
+            Error::Io(x) => {
+                let at = word(tape, at, 1);
+                let at = word(tape, at, x);
+                zeros(tape, at, 3)
+            },
+            Error::Removed => {
+                let at = word(tape, at, 2);
+                zeros(tape, at, 4)
+            },
+            Error::Timeout {
+                register,
+                mask,
+                expected,
+                last,
+            } => {
+                let at = word(tape, at, 3);
+                let at = word(tape, at, register);
+                let at = word(tape, at, mask);
+                let at = word(tape, at, expected);
+                word(tape, at, last)
+            },
+            Error::Sideband { address, ctrl } => {
+                let at = word(tape, at, 4);
+                let at = word(tape, at, address);
+                let at = word(tape, at, ctrl);
+                zeros(tape, at, 2)
+            },
+            Error::Semaphore { held } => {
+                let at = word(tape, at, 5);
+                let at = word(tape, at, held);
+                zeros(tape, at, 3)
+            },
+            Error::HostInterface { hicr } => {
+                let at = word(tape, at, 6);
+                let at = word(tape, at, hicr);
+                zeros(tape, at, 3)
+            },
+            Error::Firmware { command, status } => {
+                let at = word(tape, at, 7);
+                let at = word(tape, at, wide_byte(command));
+                let at = word(tape, at, wide_byte(status));
+                zeros(tape, at, 2)
+            },
+            Error::NoPhy => {
+                let at = word(tape, at, 8);
+                zeros(tape, at, 4)
+            },
+            Error::PhyReset => {
+                let at = word(tape, at, 9);
+                zeros(tape, at, 4)
+            },
+            Error::Lan => {
+                let at = word(tape, at, 10);
+                zeros(tape, at, 4)
+            },
+            Error::Fiber => {
+                let at = word(tape, at, 11);
+                zeros(tape, at, 4)
+            },
+            Error::Address => {
+                let at = word(tape, at, 12);
+                zeros(tape, at, 4)
+            },
+            Error::Block => {
+                let at = word(tape, at, 13);
+                zeros(tape, at, 4)
+            },
+        }
+    }
+
+    #[tactic(auto, unfolding(crate::specs::Hardware::get_error))]
+    fn get(tape: &[u32], at: usize) -> Error {
+        let kind = word_at(tape, at, 0);
+        if kind == 1 {
+            Error::Io(word_at(tape, at, 1))
+        } else if kind == 2 {
+            Error::Removed
+        } else if kind == 3 {
+            Error::Timeout {
+                register: word_at(tape, at, 1),
+                mask: word_at(tape, at, 2),
+                expected: word_at(tape, at, 3),
+                last: word_at(tape, at, 4),
+            }
+        } else if kind == 4 {
+            Error::Sideband {
+                address: word_at(tape, at, 1),
+                ctrl: word_at(tape, at, 2),
+            }
+        } else if kind == 5 {
+            Error::Semaphore {
+                held: word_at(tape, at, 1),
+            }
+        } else if kind == 6 {
+            Error::HostInterface {
+                hicr: word_at(tape, at, 1),
+            }
+        } else if kind == 7 {
+            Error::Firmware {
+                command: byte(word_at(tape, at, 1)),
+                status: byte(word_at(tape, at, 2)),
+            }
+        } else if kind == 8 {
+            Error::NoPhy
+        } else if kind == 9 {
+            Error::PhyReset
+        } else if kind == 10 {
+            Error::Lan
+        } else if kind == 11 {
+            Error::Fiber
+        } else if kind == 12 {
+            Error::Address
+        } else {
+            Error::Block
+        }
     }
 }
 
-#[tactic(auto, unfolding(crate::specs::Hardware::get_error))]
-pub fn get_error(words: &[u32], at: usize) -> Error
-    ensures { result ≡ get_error (drop at words.now) }
-{
-    let kind = word_at(words, at, 0);
-    if kind == 1 {
-        Error::Io(word_at(words, at, 1))
-    } else if kind == 2 {
-        Error::Removed
-    } else if kind == 3 {
-        Error::Timeout {
-            register: word_at(words, at, 1),
-            mask: word_at(words, at, 2),
-            expected: word_at(words, at, 3),
-            last: word_at(words, at, 4),
-        }
-    } else if kind == 4 {
-        Error::Sideband {
-            address: word_at(words, at, 1),
-            ctrl: word_at(words, at, 2),
-        }
-    } else if kind == 5 {
-        Error::Semaphore {
-            held: word_at(words, at, 1),
-        }
-    } else if kind == 6 {
-        Error::HostInterface {
-            hicr: word_at(words, at, 1),
-        }
-    } else if kind == 7 {
-        Error::Firmware {
-            command: byte(word_at(words, at, 1)),
-            status: byte(word_at(words, at, 2)),
-        }
-    } else if kind == 8 {
-        Error::NoPhy
-    } else if kind == 9 {
-        Error::PhyReset
-    } else if kind == 10 {
-        Error::Lan
-    } else if kind == 11 {
-        Error::Fiber
-    } else if kind == 12 {
-        Error::Address
-    } else {
-        Error::Block
+impl Part for Error {
+    ghost WIDTH = { 5 };
+
+    fn width() -> usize {
+        5
     }
+
+    ghost wide = { error_length };
 }
 
 pub fn put_action(tape: &mut [u32; 65], at: usize, s: Action) -> usize
@@ -187,62 +199,5 @@ pub fn get_family(words: &[u32], at: usize) -> Family
         Family::X552
     } else {
         Family::X553
-    }
-}
-
-pub fn put_word(tape: &mut [u32; 65], at: usize, s: Word) -> usize
-    ensures adds { Adds at tape.old (words_word s) result tape.new }
-    ensures back { (rest : List ℕ) → get_word (words_word s ++ rest) ≡ s }
-{
-    match s {
-        Word::Ok(x) => {
-            let at = word(tape, at, 1);
-            let at = word(tape, at, x);
-            zeros(tape, at, 4)
-        },
-        Word::Err(error) => {
-            let at = word(tape, at, 2);
-            put_error(tape, at, error)
-        },
-    }
-}
-
-#[tactic(auto, unfolding(crate::specs::Hardware::get_word))]
-pub fn get_word(words: &[u32], at: usize) -> Word
-    ensures { result ≡ get_word (drop at words.now) }
-{
-    let kind = word_at(words, at, 0);
-    if kind == 1 {
-        Word::Ok(word_at(words, at, 1))
-    } else {
-        Word::Err(get_error(words, after(words, at, 1)))
-    }
-}
-
-pub fn put_unit(tape: &mut [u32; 65], at: usize, s: Unit) -> usize
-    ensures adds { Adds at tape.old (words_unit s) result tape.new }
-    ensures back { (rest : List ℕ) → get_unit (words_unit s ++ rest) ≡ s }
-{
-    match s {
-        Unit::Ok => {
-            let at = word(tape, at, 1);
-            zeros(tape, at, 5)
-        },
-        Unit::Err(error) => {
-            let at = word(tape, at, 2);
-            put_error(tape, at, error)
-        },
-    }
-}
-
-#[tactic(auto, unfolding(crate::specs::Hardware::get_unit))]
-pub fn get_unit(words: &[u32], at: usize) -> Unit
-    ensures { result ≡ get_unit (drop at words.now) }
-{
-    let kind = word_at(words, at, 0);
-    if kind == 1 {
-        Unit::Ok
-    } else {
-        Unit::Err(get_error(words, after(words, at, 1)))
     }
 }

@@ -1,16 +1,15 @@
 // The states of hostif as words, and back.
 ghost use Rattle.std.specs.Prelude.{◌≡◌, ℕ, List, ◌++◌, drop};
 ghost use Rattle.packed_access.specs.Tape.{Adds};
-ghost use Rattle.packed_access.specs.Hostif.{get_command, get_command_place, get_exchange, get_flag, get_post, words_command, words_command_place, words_exchange, words_flag, words_post};
+ghost use Rattle.packed_access.specs.Hostif.{get_command, get_command_place, get_exchange, get_post, words_command, words_command_place, words_exchange, words_post};
 
-use crate::p_hardware::{get_error, get_word, put_error, put_word};
 use crate::p_sync::{get_sync, put_sync};
-use crate::read::{after, is, joined, word_at};
-use crate::tape::{flag, long, word, zeros};
+use crate::packed::Packed;
+use crate::read::{after, joined, word_at};
+use crate::tape::{long, word, zeros};
 use hostif::command::{Command, CommandPlace};
 use hostif::exchange::Exchange;
 use hostif::post::Post;
-use hostif::token::Flag;
 
 pub fn put_command_place(tape: &mut [u32; 65], at: usize, s: CommandPlace) -> usize
     ensures adds { Adds at tape.old (words_command_place s) result tape.new }
@@ -21,9 +20,9 @@ pub fn put_command_place(tape: &mut [u32; 65], at: usize, s: CommandPlace) -> us
             let at = word(tape, at, 1);
             zeros(tape, at, 6)
         },
-        CommandPlace::Releasing(x) => {
+        CommandPlace::Releasing(word_or_error) => {
             let at = word(tape, at, 2);
-            put_word(tape, at, x)
+            word_or_error.put(tape, at)
         },
     }
 }
@@ -36,7 +35,7 @@ pub fn get_command_place(words: &[u32], at: usize) -> CommandPlace
     if kind == 1 {
         CommandPlace::Acquiring
     } else {
-        CommandPlace::Releasing(get_word(words, after(words, at, 1)))
+        CommandPlace::Releasing(Result::get(words, after(words, at, 1)))
     }
 }
 
@@ -177,34 +176,5 @@ pub fn get_command(words: &[u32], at: usize) -> Command
         )
     } else {
         Command::Body(get_exchange(words, after(words, at, 1)))
-    }
-}
-
-pub fn put_flag(tape: &mut [u32; 65], at: usize, s: Flag) -> usize
-    ensures adds { Adds at tape.old (words_flag s) result tape.new }
-    ensures back { (rest : List ℕ) → get_flag (words_flag s ++ rest) ≡ s }
-{
-    match s {
-        Flag::Ok(x) => {
-            let at = word(tape, at, 1);
-            let at = flag(tape, at, x);
-            zeros(tape, at, 4)
-        },
-        Flag::Err(error) => {
-            let at = word(tape, at, 2);
-            put_error(tape, at, error)
-        },
-    }
-}
-
-#[tactic(auto, unfolding(crate::specs::Hostif::get_flag))]
-pub fn get_flag(words: &[u32], at: usize) -> Flag
-    ensures { result ≡ get_flag (drop at words.now) }
-{
-    let kind = word_at(words, at, 0);
-    if kind == 1 {
-        Flag::Ok(is(word_at(words, at, 1)))
-    } else {
-        Flag::Err(get_error(words, after(words, at, 1)))
     }
 }

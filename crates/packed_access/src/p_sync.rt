@@ -3,7 +3,7 @@ ghost use Rattle.std.specs.Prelude.{◌≡◌, ℕ, List, ◌++◌, drop};
 ghost use Rattle.packed_access.specs.Tape.{Adds};
 ghost use Rattle.packed_access.specs.Sync.{get_acquire_bits, get_clear, get_lock, get_release_bits, get_set_mux, get_smbi, get_sync, get_unlock, words_acquire_bits, words_clear, words_lock, words_release_bits, words_set_mux, words_smbi, words_sync, words_unlock};
 
-use crate::p_hardware::{get_unit, put_unit};
+use crate::packed::Packed;
 use crate::read::{after, is, word_at};
 use crate::tape::{flag, word, zeros};
 use hardware::Regs;
@@ -191,9 +191,9 @@ pub fn put_acquire_bits(tape: &mut [u32; 65], at: usize, s: AcquireBits) -> usiz
             let at = word(tape, at, 3);
             zeros(tape, at, 8)
         },
-        AcquireBits::Ending(unit, unlock) => {
+        AcquireBits::Ending(nothing_or_error, unlock) => {
             let at = word(tape, at, 4);
-            let at = put_unit(tape, at, unit);
+            let at = nothing_or_error.put(tape, at);
             put_unlock(tape, at, unlock)
         },
         AcquireBits::Held(x, y, unlock) => {
@@ -230,7 +230,7 @@ pub fn get_acquire_bits(words: &[u32], at: usize) -> AcquireBits
         AcquireBits::Writing
     } else if kind == 4 {
         AcquireBits::Ending(
-            get_unit(words, after(words, at, 1)),
+            Result::get(words, after(words, at, 1)),
             get_unlock(words, after(words, at, 7)),
         )
     } else if kind == 5 {
@@ -266,9 +266,9 @@ pub fn put_release_bits(tape: &mut [u32; 65], at: usize, s: ReleaseBits) -> usiz
             let at = put_clear(tape, at, clear);
             zeros(tape, at, 7)
         },
-        ReleaseBits::Unlocking(unit, unlock) => {
+        ReleaseBits::Unlocking(nothing_or_error, unlock) => {
             let at = word(tape, at, 4);
-            let at = put_unit(tape, at, unit);
+            let at = nothing_or_error.put(tape, at);
             put_unlock(tape, at, unlock)
         },
         ReleaseBits::Waiting => {
@@ -291,7 +291,7 @@ pub fn get_release_bits(words: &[u32], at: usize) -> ReleaseBits
         ReleaseBits::Clearing(get_clear(words, after(words, at, 1)))
     } else if kind == 4 {
         ReleaseBits::Unlocking(
-            get_unit(words, after(words, at, 1)),
+            Result::get(words, after(words, at, 1)),
             get_unlock(words, after(words, at, 7)),
         )
     } else {

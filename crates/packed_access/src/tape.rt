@@ -18,10 +18,8 @@ pub fn zeros(tape: &mut [u32], at: usize, n: usize) -> usize
     ensures { Adds at tape.old (replicate n 0) result tape.new }
 {
     let mut to = at;
-    let mut i = 0;
-    while i < n {
+    for _ in 0..n {
         to = word(tape, to, 0);
-        i += 1;
     }
     to
 }

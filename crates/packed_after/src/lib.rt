@@ -2,5 +2,4 @@
 #![tactic(auto)]
 
 pub mod p_operations;
-pub mod p_phy;
 pub mod p_watch;

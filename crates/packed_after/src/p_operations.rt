@@ -3,7 +3,6 @@ ghost use Rattle.std.specs.Prelude.{◌≡◌, ℕ, List, ◌++◌, drop};
 ghost use Rattle.packed_access.specs.Tape.{Adds};
 ghost use Rattle.packed_after.specs.Operations.{get_after, get_kr, get_mdio, words_after, words_kr, words_mdio};
 
-use crate::p_phy::{get_maybe_flag, put_maybe_flag};
 use crate::p_watch::{get_poll, put_poll};
 use activity::Asked;
 use answers::{Speeds, Words};
@@ -12,11 +11,10 @@ use kr::sequence::Sequence;
 use operations::After;
 use operations::kr_registers::Kr;
 use operations::registers::Mdio;
+use packed_access::packed::Packed;
 use packed_access::read::{after, byte, half, is, word_at};
 use packed_access::tape::{flag, wide, wide_byte, word, zeros};
-use packed_answers::p_answers::{
-    get_internal, get_maybe_status, get_maybe_word, put_internal, put_maybe_status, put_maybe_word,
-};
+use packed_answers::p_answers::{get_internal, put_internal};
 use packed_bringup::p_activity::{get_activity, put_activity};
 use packed_bringup::p_bringup::{get_bringup, put_bringup};
 use packed_bringup::p_kr::{get_kr_modify, get_kr_place, put_kr_modify, put_kr_place};
@@ -79,7 +77,7 @@ pub fn put_mdio(tape: &mut [u32; 65], at: usize, s: Mdio) -> usize
             let at = flag(tape, at, speeds.m100);
             let at = flag(tape, at, advertised.veto);
             let the_nbase = advertised.nbase;
-            let at = put_maybe_flag(tape, at, the_nbase);
+            let at = the_nbase.put(tape, at);
             let the_place = advertise.place;
             let at = put_advertise_place(tape, at, the_place);
             let the_modify = advertise.modify;
@@ -137,7 +135,7 @@ pub fn get_mdio(words: &[u32], at: usize) -> Mdio
                     g1: is(word_at(words, at, 3)),
                     m100: is(word_at(words, at, 4)),
                 },
-                nbase: get_maybe_flag(words, after(words, at, 6)),
+                nbase: Option::get(words, after(words, at, 6)),
                 veto: is(word_at(words, at, 5)),
             },
             Advertise {
@@ -171,7 +169,7 @@ pub fn put_kr(tape: &mut [u32; 65], at: usize, s: Kr) -> usize
             let the_place = sequence.place;
             let at = put_kr_place(tape, at, the_place);
             let the_first = sequence.first;
-            let at = put_maybe_word(tape, at, the_first);
+            let at = the_first.put(tape, at);
             let the_modify = sequence.modify;
             put_kr_modify(tape, at, the_modify)
         },
@@ -195,7 +193,7 @@ pub fn get_kr(words: &[u32], at: usize) -> Kr
     } else {
         Kr::Sequence(Sequence {
             place: get_kr_place(words, after(words, at, 1)),
-            first: get_maybe_word(words, after(words, at, 4)),
+            first: Option::get(words, after(words, at, 4)),
             modify: get_kr_modify(words, after(words, after(words, at, 4), 2)),
         })
     }
@@ -269,7 +267,7 @@ pub fn put_after(tape: &mut [u32; 65], at: usize, s: After) -> usize
             let the_internal = watch.internal;
             let at = put_internal(tape, at, the_internal);
             let the_forced = watch.forced;
-            let at = put_maybe_status(tape, at, the_forced);
+            let at = the_forced.put(tape, at);
             let at = put_poll(tape, at, poll);
             zeros(tape, at, 4)
         },
@@ -322,7 +320,7 @@ pub fn get_after(words: &[u32], at: usize) -> After
             Watch {
                 phy: word_at(words, at, 1),
                 internal: get_internal(words, after(words, at, 3)),
-                forced: get_maybe_status(words, after(words, at, 4)),
+                forced: Option::get(words, after(words, at, 4)),
                 reforced: word_at(words, at, 2),
             },
             get_poll(words, after(words, after(words, at, 4), 2)),

@@ -4,9 +4,9 @@ ghost use Rattle.packed_access.specs.Tape.{Adds};
 ghost use Rattle.packed_after.specs.Watch.{get_poll, words_poll};
 
 use kr::sequence::Sequence;
+use packed_access::packed::Packed;
 use packed_access::read::{after, half, word_at};
 use packed_access::tape::{wide, word, zeros};
-use packed_answers::p_answers::{get_maybe_word, put_maybe_word};
 use packed_bringup::p_kr::{get_kr_modify, get_kr_place, put_kr_modify, put_kr_place};
 use packed_bringup::p_phy::{get_an_link, put_an_link};
 use watch::poll::Poll;
@@ -38,7 +38,7 @@ pub fn put_poll(tape: &mut [u32; 65], at: usize, s: Poll) -> usize
             let the_place = sequence.place;
             let at = put_kr_place(tape, at, the_place);
             let the_first = sequence.first;
-            let at = put_maybe_word(tape, at, the_first);
+            let at = the_first.put(tape, at);
             let the_modify = sequence.modify;
             put_kr_modify(tape, at, the_modify)
         },
@@ -65,7 +65,7 @@ pub fn get_poll(words: &[u32], at: usize) -> Poll
             word_at(words, at, 2),
             Sequence {
                 place: get_kr_place(words, after(words, at, 3)),
-                first: get_maybe_word(words, after(words, at, 6)),
+                first: Option::get(words, after(words, at, 6)),
                 modify: get_kr_modify(words, after(words, after(words, at, 6), 2)),
             },
         )

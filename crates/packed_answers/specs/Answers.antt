@@ -1,37 +1,21 @@
 -- The words of answers's states: a kind from 1 on, its numbers, its parts, and zeros up to the type's width
-use Rattle.std.specs.Prelude.{ℕ, ◌%◌, List, [], ◌∷◌, ◌++◌, eqb, drop, replicate}
+use Rattle.std.specs.Prelude.{ℕ, ◌%◌, List, [], ◌∷◌, ◌++◌, eqb, drop, replicate, Result, Ok, Err}
 use Rattle.hardware.specs.Talk.{pick}
 use Rattle.packed_access.specs.Tape.{word_at, is, flag_of}
-use Rattle.answers.specs.declared.Answer.TheVariants as answerv
-use Rattle.answers.specs.declared.Answer.{Answer}
 use Rattle.answers.specs.declared.Copper.TheVariants as copperv
 use Rattle.answers.specs.declared.Copper.{Copper}
 use Rattle.answers.specs.declared.Internal.TheVariants as internalv
 use Rattle.answers.specs.declared.Internal.{Internal}
-use Rattle.answers.specs.declared.MaybeStatus.TheVariants as maybe_statusv
-use Rattle.answers.specs.declared.MaybeStatus.{MaybeStatus}
-use Rattle.answers.specs.declared.MaybeWord.TheVariants as maybe_wordv
-use Rattle.answers.specs.declared.MaybeWord.{MaybeWord}
-use Rattle.answers.specs.declared.Scanned.TheVariants as scannedv
-use Rattle.answers.specs.declared.Scanned.{Scanned}
 use Rattle.answers.specs.declared.Setup552.TheVariants as setup552v
 use Rattle.answers.specs.declared.Setup552.{Setup552}
 use Rattle.answers.specs.declared.Setup553.TheVariants as setup553v
 use Rattle.answers.specs.declared.Setup553.{Setup553}
 use Rattle.answers.specs.declared.Value.TheVariants as valuev
 use Rattle.answers.specs.declared.Value.{Value}
+use Rattle.hardware.specs.declared.Error.{Error}
 use Rattle.packed_access.specs.Hardware.{get_error, words_error}
-use Rattle.packed_answers.specs.Words.{get_link, get_phy_id, words_link, words_phy_id}
-
--- 3 words
-unfoldable pub words_scanned : Scanned → List ℕ
-words_scanned scannedv.Nothing = 1 ∷ replicate 2 0
-words_scanned (scannedv.At x y) = 2 ∷ x ∷ y ∷ []
-
-unfoldable pub get_scanned : List ℕ → Scanned
-get_scanned s =
-    pick (eqb (word_at s 0) 1) (scannedv.Nothing) (
-    scannedv.At (word_at s 1 % 256) (word_at s 2))
+use Rattle.packed_access.specs.Packed.{get_byte, get_half, get_option, get_pair, get_word, words_option, words_pair, words_word}
+use Rattle.packed_answers.specs.Words.{get_link, words_link}
 
 -- 1 words
 unfoldable pub words_internal : Internal → List ℕ
@@ -61,16 +45,6 @@ get_setup552 s =
     pick (eqb (word_at s 0) 5) (setup552v.ManageabilityVeto) (
     setup552v.Copper (record { x557 = (record { phy = (word_at s 1 % 256); id = (word_at s 2); sel = (word_at s 3); unstalled = (is (word_at s 4)); reset = (is (word_at s 5)); internal = (get_internal (drop 10 s)) }); advertised = (record { g10 = (is (word_at s 6)); g1 = (is (word_at s 7)); m100 = (is (word_at s 8)) }); restarted = (is (word_at s 9)) }))))))
 
--- 2 words
-unfoldable pub words_maybe_word : MaybeWord → List ℕ
-words_maybe_word maybe_wordv.Nothing = 1 ∷ 0 ∷ []
-words_maybe_word (maybe_wordv.Is x) = 2 ∷ x ∷ []
-
-unfoldable pub get_maybe_word : List ℕ → MaybeWord
-get_maybe_word s =
-    pick (eqb (word_at s 0) 1) (maybe_wordv.Nothing) (
-    maybe_wordv.Is (word_at s 1))
-
 -- 12 words
 unfoldable pub words_setup553 : Setup553 → List ℕ
 words_setup553 (setup553v.Kr link_ctrl) = 1 ∷ link_ctrl ∷ replicate 10 0
@@ -78,7 +52,7 @@ words_setup553 (setup553v.Kr2500 sel) = 2 ∷ sel ∷ replicate 10 0
 words_setup553 (setup553v.Sgmii sgmii_setup) = 3 ∷ sgmii_setup.link_ctrl ∷ sgmii_setup.sgmii ∷ sgmii_setup.flx ∷ replicate 8 0
 words_setup553 setup553v.ManageabilityVeto = 4 ∷ replicate 11 0
 words_setup553 (setup553v.X557 setup552) = 5 ∷ words_setup552 setup552
-words_setup553 (setup553v.Firmware firmware_setup) = 6 ∷ firmware_setup.phy.id ∷ firmware_setup.phy.speeds ∷ (flag_of firmware_setup.overtemp) ∷ (words_maybe_word firmware_setup.internal) ++ (replicate 6 0)
+words_setup553 (setup553v.Firmware firmware_setup) = 6 ∷ firmware_setup.phy.id ∷ firmware_setup.phy.speeds ∷ (flag_of firmware_setup.overtemp) ∷ (words_option 1 words_word firmware_setup.internal) ++ (replicate 6 0)
 
 unfoldable pub get_setup553 : List ℕ → Setup553
 get_setup553 s =
@@ -87,7 +61,7 @@ get_setup553 s =
     pick (eqb (word_at s 0) 3) (setup553v.Sgmii (record { link_ctrl = (word_at s 1); sgmii = (word_at s 2); flx = (word_at s 3) })) (
     pick (eqb (word_at s 0) 4) (setup553v.ManageabilityVeto) (
     pick (eqb (word_at s 0) 5) (setup553v.X557 (get_setup552 (drop 1 s))) (
-    setup553v.Firmware (record { phy = (record { id = (word_at s 1); speeds = (word_at s 2 % 65536) }); internal = (get_maybe_word (drop 4 s)); overtemp = (is (word_at s 3)) }))))))
+    setup553v.Firmware (record { phy = (record { id = (word_at s 1); speeds = (word_at s 2 % 65536) }); internal = (get_option get_word (drop 4 s)); overtemp = (is (word_at s 3)) }))))))
 
 -- 2 words
 unfoldable pub words_copper : Copper → List ℕ
@@ -101,16 +75,6 @@ get_copper s =
     pick (eqb (word_at s 0) 2) (copperv.Up (word_at s 1)) (
     copperv.Invalid (word_at s 1 % 65536)))
 
--- 2 words
-unfoldable pub words_maybe_status : MaybeStatus → List ℕ
-words_maybe_status maybe_statusv.Nothing = 1 ∷ 0 ∷ []
-words_maybe_status (maybe_statusv.Is x) = 2 ∷ x ∷ []
-
-unfoldable pub get_maybe_status : List ℕ → MaybeStatus
-get_maybe_status s =
-    pick (eqb (word_at s 0) 1) (maybe_statusv.Nothing) (
-    maybe_statusv.Is (word_at s 1 % 65536))
-
 -- 13 words
 unfoldable pub words_value : Value → List ℕ
 words_value valuev.Nothing = 1 ∷ replicate 12 0
@@ -119,12 +83,12 @@ words_value (valuev.Word x) = 3 ∷ x ∷ replicate 11 0
 words_value (valuev.Link link) = 4 ∷ (words_link link) ++ (replicate 9 0)
 words_value (valuev.Command status words) = 5 ∷ status ∷ words ∷ replicate 10 0
 words_value (valuev.Activity x) = 6 ∷ x.w0 ∷ x.w1 ∷ x.w2 ∷ x.w3 ∷ replicate 8 0
-words_value (valuev.Probe phy_id) = 7 ∷ (words_phy_id phy_id) ++ (replicate 10 0)
-words_value (valuev.Scan scanned) = 8 ∷ (words_scanned scanned) ++ (replicate 9 0)
+words_value (valuev.Probe maybe_word) = 7 ∷ (words_option 1 words_word maybe_word) ++ (replicate 10 0)
+words_value (valuev.Scan maybe_byte_word) = 8 ∷ (words_option 2 (words_pair words_word words_word) maybe_byte_word) ++ (replicate 9 0)
 words_value (valuev.Abilities speeds) = 9 ∷ (flag_of speeds.g10) ∷ (flag_of speeds.g1) ∷ (flag_of speeds.m100) ∷ replicate 9 0
 words_value (valuev.X552 setup552) = 10 ∷ (words_setup552 setup552) ++ (0 ∷ [])
 words_value (valuev.X553 setup553) = 11 ∷ words_setup553 setup553
-words_value (valuev.Poll copper forced reforced) = 12 ∷ reforced ∷ (words_copper copper) ++ ((words_maybe_status forced) ++ (replicate 7 0))
+words_value (valuev.Poll copper forced reforced) = 12 ∷ reforced ∷ (words_copper copper) ++ ((words_option 1 words_word forced) ++ (replicate 7 0))
 
 unfoldable pub get_value : List ℕ → Value
 get_value s =
@@ -134,19 +98,19 @@ get_value s =
     pick (eqb (word_at s 0) 4) (valuev.Link (get_link (drop 1 s))) (
     pick (eqb (word_at s 0) 5) (valuev.Command (word_at s 1 % 256) (word_at s 2)) (
     pick (eqb (word_at s 0) 6) (valuev.Activity (record { w0 = (word_at s 1); w1 = (word_at s 2); w2 = (word_at s 3); w3 = (word_at s 4) })) (
-    pick (eqb (word_at s 0) 7) (valuev.Probe (get_phy_id (drop 1 s))) (
-    pick (eqb (word_at s 0) 8) (valuev.Scan (get_scanned (drop 1 s))) (
+    pick (eqb (word_at s 0) 7) (valuev.Probe (get_option get_word (drop 1 s))) (
+    pick (eqb (word_at s 0) 8) (valuev.Scan (get_option (get_pair 1 get_byte get_word) (drop 1 s))) (
     pick (eqb (word_at s 0) 9) (valuev.Abilities (record { g10 = (is (word_at s 1)); g1 = (is (word_at s 2)); m100 = (is (word_at s 3)) })) (
     pick (eqb (word_at s 0) 10) (valuev.X552 (get_setup552 (drop 1 s))) (
     pick (eqb (word_at s 0) 11) (valuev.X553 (get_setup553 (drop 1 s))) (
-    valuev.Poll (get_copper (drop 2 s)) (get_maybe_status (drop 4 s)) (word_at s 1))))))))))))
+    valuev.Poll (get_copper (drop 2 s)) (get_option get_half (drop 4 s)) (word_at s 1))))))))))))
 
 -- 14 words
-unfoldable pub words_answer : Answer → List ℕ
-words_answer (answerv.Ok value) = 1 ∷ words_value value
-words_answer (answerv.Err error) = 2 ∷ (words_error error) ++ (replicate 8 0)
+unfoldable pub words_value_or_error : Result Value Error → List ℕ
+words_value_or_error (Ok value) = 1 ∷ words_value value
+words_value_or_error (Err error) = 2 ∷ (words_error error) ++ (replicate 8 0)
 
-unfoldable pub get_answer : List ℕ → Answer
-get_answer s =
-    pick (eqb (word_at s 0) 1) (answerv.Ok (get_value (drop 1 s))) (
-    answerv.Err (get_error (drop 1 s)))
+unfoldable pub get_value_or_error : List ℕ → Result Value Error
+get_value_or_error s =
+    pick (eqb (word_at s 0) 1) (Ok (get_value (drop 1 s))) (
+    Err (get_error (drop 1 s)))

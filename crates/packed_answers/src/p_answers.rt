@@ -1,45 +1,17 @@
 // The states of answers as words, and back.
 ghost use Rattle.std.specs.Prelude.{◌≡◌, ℕ, List, ◌++◌, drop};
 ghost use Rattle.packed_access.specs.Tape.{Adds};
-ghost use Rattle.packed_answers.specs.Answers.{get_answer, get_copper, get_internal, get_maybe_status, get_maybe_word, get_scanned, get_setup552, get_setup553, get_value, words_answer, words_copper, words_internal, words_maybe_status, words_maybe_word, words_scanned, words_setup552, words_setup553, words_value};
+ghost use Rattle.packed_answers.specs.Answers.{get_copper, get_internal, get_setup552, get_setup553, get_value, get_value_or_error, words_copper, words_internal, words_setup552, words_setup553, words_value, words_value_or_error};
 
-use crate::p_words::{get_link, get_phy_id, put_link, put_phy_id};
+use crate::p_words::{get_link, put_link};
 use answers::{
-    Answer, Copper, CopperSetup, FirmwarePhy, FirmwareSetup, Internal, MaybeStatus, MaybeWord,
-    Scanned, Setup552, Setup553, SgmiiSetup, Speeds, Value, Words, X557,
+    Copper, CopperSetup, FirmwarePhy, FirmwareSetup, Internal, Setup552, Setup553, SgmiiSetup,
+    Speeds, Value, Words, X557,
 };
-use packed_access::p_hardware::{get_error, put_error};
+use hardware::Error;
+use packed_access::packed::Packed;
 use packed_access::read::{after, byte, half, is, word_at};
 use packed_access::tape::{flag, wide, wide_byte, word, zeros};
-
-pub fn put_scanned(tape: &mut [u32; 65], at: usize, s: Scanned) -> usize
-    ensures adds { Adds at tape.old (words_scanned s) result tape.new }
-    ensures back { (rest : List ℕ) → get_scanned (words_scanned s ++ rest) ≡ s }
-{
-    match s {
-        Scanned::Nothing => {
-            let at = word(tape, at, 1);
-            zeros(tape, at, 2)
-        },
-        Scanned::At(x, y) => {
-            let at = word(tape, at, 2);
-            let at = word(tape, at, wide_byte(x));
-            word(tape, at, y)
-        },
-    }
-}
-
-#[tactic(auto, unfolding(crate::specs::Answers::get_scanned))]
-pub fn get_scanned(words: &[u32], at: usize) -> Scanned
-    ensures { result ≡ get_scanned (drop at words.now) }
-{
-    let kind = word_at(words, at, 0);
-    if kind == 1 {
-        Scanned::Nothing
-    } else {
-        Scanned::At(byte(word_at(words, at, 1)), word_at(words, at, 2))
-    }
-}
 
 pub fn put_internal(tape: &mut [u32; 65], at: usize, s: Internal) -> usize
     ensures adds { Adds at tape.old (words_internal s) result tape.new }
@@ -145,34 +117,6 @@ pub fn get_setup552(words: &[u32], at: usize) -> Setup552
     }
 }
 
-pub fn put_maybe_word(tape: &mut [u32; 65], at: usize, s: MaybeWord) -> usize
-    ensures adds { Adds at tape.old (words_maybe_word s) result tape.new }
-    ensures back { (rest : List ℕ) → get_maybe_word (words_maybe_word s ++ rest) ≡ s }
-{
-    match s {
-        MaybeWord::Nothing => {
-            let at = word(tape, at, 1);
-            word(tape, at, 0)
-        },
-        MaybeWord::Is(x) => {
-            let at = word(tape, at, 2);
-            word(tape, at, x)
-        },
-    }
-}
-
-#[tactic(auto, unfolding(crate::specs::Answers::get_maybe_word))]
-pub fn get_maybe_word(words: &[u32], at: usize) -> MaybeWord
-    ensures { result ≡ get_maybe_word (drop at words.now) }
-{
-    let kind = word_at(words, at, 0);
-    if kind == 1 {
-        MaybeWord::Nothing
-    } else {
-        MaybeWord::Is(word_at(words, at, 1))
-    }
-}
-
 pub fn put_setup553(tape: &mut [u32; 65], at: usize, s: Setup553) -> usize
     ensures adds { Adds at tape.old (words_setup553 s) result tape.new }
     ensures back { (rest : List ℕ) → get_setup553 (words_setup553 s ++ rest) ≡ s }
@@ -210,7 +154,7 @@ pub fn put_setup553(tape: &mut [u32; 65], at: usize, s: Setup553) -> usize
             let at = word(tape, at, wide(phy.speeds));
             let at = flag(tape, at, firmware_setup.overtemp);
             let the_internal = firmware_setup.internal;
-            let at = put_maybe_word(tape, at, the_internal);
+            let at = the_internal.put(tape, at);
             zeros(tape, at, 6)
         },
     }
@@ -245,7 +189,7 @@ pub fn get_setup553(words: &[u32], at: usize) -> Setup553
                 id: word_at(words, at, 1),
                 speeds: half(word_at(words, at, 2)),
             },
-            internal: get_maybe_word(words, after(words, at, 4)),
+            internal: Option::get(words, after(words, at, 4)),
             overtemp: is(word_at(words, at, 3)),
         })
     }
@@ -289,34 +233,6 @@ pub fn get_copper(words: &[u32], at: usize) -> Copper
     }
 }
 
-pub fn put_maybe_status(tape: &mut [u32; 65], at: usize, s: MaybeStatus) -> usize
-    ensures adds { Adds at tape.old (words_maybe_status s) result tape.new }
-    ensures back { (rest : List ℕ) → get_maybe_status (words_maybe_status s ++ rest) ≡ s }
-{
-    match s {
-        MaybeStatus::Nothing => {
-            let at = word(tape, at, 1);
-            word(tape, at, 0)
-        },
-        MaybeStatus::Is(x) => {
-            let at = word(tape, at, 2);
-            word(tape, at, wide(x))
-        },
-    }
-}
-
-#[tactic(auto, unfolding(crate::specs::Answers::get_maybe_status))]
-pub fn get_maybe_status(words: &[u32], at: usize) -> MaybeStatus
-    ensures { result ≡ get_maybe_status (drop at words.now) }
-{
-    let kind = word_at(words, at, 0);
-    if kind == 1 {
-        MaybeStatus::Nothing
-    } else {
-        MaybeStatus::Is(half(word_at(words, at, 1)))
-    }
-}
-
 pub fn put_value(tape: &mut [u32; 65], at: usize, s: Value) -> usize
     ensures adds { Adds at tape.old (words_value s) result tape.new }
     ensures back { (rest : List ℕ) → get_value (words_value s ++ rest) ≡ s }
@@ -355,14 +271,14 @@ pub fn put_value(tape: &mut [u32; 65], at: usize, s: Value) -> usize
             let at = word(tape, at, x.w3);
             zeros(tape, at, 8)
         },
-        Value::Probe(phy_id) => {
+        Value::Probe(maybe_word) => {
             let at = word(tape, at, 7);
-            let at = put_phy_id(tape, at, phy_id);
+            let at = maybe_word.put(tape, at);
             zeros(tape, at, 10)
         },
-        Value::Scan(scanned) => {
+        Value::Scan(maybe_byte_word) => {
             let at = word(tape, at, 8);
-            let at = put_scanned(tape, at, scanned);
+            let at = maybe_byte_word.put(tape, at);
             zeros(tape, at, 9)
         },
         Value::Abilities(speeds) => {
@@ -389,7 +305,7 @@ pub fn put_value(tape: &mut [u32; 65], at: usize, s: Value) -> usize
             let at = word(tape, at, 12);
             let at = word(tape, at, reforced);
             let at = put_copper(tape, at, copper);
-            let at = put_maybe_status(tape, at, forced);
+            let at = forced.put(tape, at);
             zeros(tape, at, 7)
         },
     }
@@ -421,9 +337,9 @@ pub fn get_value(words: &[u32], at: usize) -> Value
             w3: word_at(words, at, 4),
         })
     } else if kind == 7 {
-        Value::Probe(get_phy_id(words, after(words, at, 1)))
+        Value::Probe(Option::get(words, after(words, at, 1)))
     } else if kind == 8 {
-        Value::Scan(get_scanned(words, after(words, at, 1)))
+        Value::Scan(Option::get(words, after(words, at, 1)))
     } else if kind == 9 {
         Value::Abilities(Speeds {
             g10: is(word_at(words, at, 1)),
@@ -437,37 +353,37 @@ pub fn get_value(words: &[u32], at: usize) -> Value
     } else {
         Value::Poll {
             copper: get_copper(words, after(words, at, 2)),
-            forced: get_maybe_status(words, after(words, at, 4)),
+            forced: Option::get(words, after(words, at, 4)),
             reforced: word_at(words, at, 1),
         }
     }
 }
 
-pub fn put_answer(tape: &mut [u32; 65], at: usize, s: Answer) -> usize
-    ensures adds { Adds at tape.old (words_answer s) result tape.new }
-    ensures back { (rest : List ℕ) → get_answer (words_answer s ++ rest) ≡ s }
+pub fn put_value_or_error(tape: &mut [u32; 65], at: usize, s: Result<Value, Error>) -> usize
+    ensures adds { Adds at tape.old (words_value_or_error s) result tape.new }
+    ensures back { (rest : List ℕ) → get_value_or_error (words_value_or_error s ++ rest) ≡ s }
 {
     match s {
-        Answer::Ok(value) => {
+        Ok(value) => {
             let at = word(tape, at, 1);
             put_value(tape, at, value)
         },
-        Answer::Err(error) => {
+        Err(error) => {
             let at = word(tape, at, 2);
-            let at = put_error(tape, at, error);
+            let at = error.put(tape, at);
             zeros(tape, at, 8)
         },
     }
 }
 
-#[tactic(auto, unfolding(crate::specs::Answers::get_answer))]
-pub fn get_answer(words: &[u32], at: usize) -> Answer
-    ensures { result ≡ get_answer (drop at words.now) }
+#[tactic(auto, unfolding(crate::specs::Answers::get_value_or_error))]
+pub fn get_value_or_error(words: &[u32], at: usize) -> Result<Value, Error>
+    ensures { result ≡ get_value_or_error (drop at words.now) }
 {
     let kind = word_at(words, at, 0);
     if kind == 1 {
-        Answer::Ok(get_value(words, after(words, at, 1)))
+        Ok(get_value(words, after(words, at, 1)))
     } else {
-        Answer::Err(get_error(words, after(words, at, 1)))
+        Err(Error::get(words, after(words, at, 1)))
     }
 }

@@ -2,7 +2,7 @@
 use Rattle.std.specs.Prelude.{ℕ, ◌%◌, List, [], ◌∷◌, ◌++◌, eqb, drop, replicate}
 use Rattle.hardware.specs.Talk.{pick}
 use Rattle.packed_access.specs.Tape.{word_at, is, flag_of}
-use Rattle.packed_answers.specs.Answers.{get_maybe_word, words_maybe_word}
+use Rattle.packed_access.specs.Packed.{get_option, get_word, words_option, words_word}
 use Rattle.packed_bringup.specs.Kr.{get_kr_modify, get_kr_place, words_kr_modify, words_kr_place}
 use Rattle.packed_bringup.specs.Phy.{get_advertise_place, get_an_link, get_clock, get_modify, get_probe, get_reset, words_advertise_place, words_an_link, words_clock, words_modify, words_probe, words_reset}
 use Rattle.x552.specs.declared.link.CopperLink.TheVariants as copper_linkv
@@ -33,7 +33,7 @@ get_prepare_copper s =
 -- 11 words
 unfoldable pub words_copper_link : CopperLink → List ℕ
 words_copper_link copper_linkv.Abilities = 1 ∷ replicate 10 0
-words_copper_link (copper_linkv.Ixfi speeds sequence) = 2 ∷ (flag_of speeds.g10) ∷ (flag_of speeds.g1) ∷ (flag_of speeds.m100) ∷ (words_kr_place sequence.place) ++ ((words_maybe_word sequence.first) ++ (words_kr_modify sequence.modify))
+words_copper_link (copper_linkv.Ixfi speeds sequence) = 2 ∷ (flag_of speeds.g10) ∷ (flag_of speeds.g1) ∷ (flag_of speeds.m100) ∷ (words_kr_place sequence.place) ++ ((words_option 1 words_word sequence.first) ++ (words_kr_modify sequence.modify))
 words_copper_link (copper_linkv.Waiting speeds y) = 3 ∷ (flag_of speeds.g10) ∷ (flag_of speeds.g1) ∷ (flag_of speeds.m100) ∷ y ∷ replicate 6 0
 words_copper_link (copper_linkv.Links speeds y) = 4 ∷ (flag_of speeds.g10) ∷ (flag_of speeds.g1) ∷ (flag_of speeds.m100) ∷ y ∷ replicate 6 0
 words_copper_link (copper_linkv.Linking speeds y an_link) = 5 ∷ (flag_of speeds.g10) ∷ (flag_of speeds.g1) ∷ (flag_of speeds.m100) ∷ y ∷ (words_an_link an_link) ++ (replicate 5 0)
@@ -42,7 +42,7 @@ words_copper_link (copper_linkv.Advertise speeds advertise) = 6 ∷ (flag_of spe
 unfoldable pub get_copper_link : List ℕ → CopperLink
 get_copper_link s =
     pick (eqb (word_at s 0) 1) (copper_linkv.Abilities) (
-    pick (eqb (word_at s 0) 2) (copper_linkv.Ixfi (record { g10 = (is (word_at s 1)); g1 = (is (word_at s 2)); m100 = (is (word_at s 3)) }) (record { place = (get_kr_place (drop 4 s)); first = (get_maybe_word (drop 7 s)); modify = (get_kr_modify (drop 2 (drop 7 s))) })) (
+    pick (eqb (word_at s 0) 2) (copper_linkv.Ixfi (record { g10 = (is (word_at s 1)); g1 = (is (word_at s 2)); m100 = (is (word_at s 3)) }) (record { place = (get_kr_place (drop 4 s)); first = (get_option get_word (drop 7 s)); modify = (get_kr_modify (drop 2 (drop 7 s))) })) (
     pick (eqb (word_at s 0) 3) (copper_linkv.Waiting (record { g10 = (is (word_at s 1)); g1 = (is (word_at s 2)); m100 = (is (word_at s 3)) }) (word_at s 4)) (
     pick (eqb (word_at s 0) 4) (copper_linkv.Links (record { g10 = (is (word_at s 1)); g1 = (is (word_at s 2)); m100 = (is (word_at s 3)) }) (word_at s 4)) (
     pick (eqb (word_at s 0) 5) (copper_linkv.Linking (record { g10 = (is (word_at s 1)); g1 = (is (word_at s 2)); m100 = (is (word_at s 3)) }) (word_at s 4) (get_an_link (drop 5 s))) (

@@ -13,9 +13,10 @@ use crate::p_x553::{
 use answers::X557;
 use bringup::{Bringup, Lane};
 use kr::sequence::Sequence;
+use packed_access::packed::Packed;
 use packed_access::read::{after, byte, is, word_at};
 use packed_access::tape::{flag, wide_byte, word, zeros};
-use packed_answers::p_answers::{get_internal, get_maybe_word, put_internal, put_maybe_word};
+use packed_answers::p_answers::{get_internal, put_internal};
 
 pub fn put_lane(tape: &mut [u32; 65], at: usize, s: Lane) -> usize
     ensures adds { Adds at tape.old (words_lane s) result tape.new }
@@ -81,7 +82,7 @@ pub fn put_bringup(tape: &mut [u32; 65], at: usize, s: Bringup) -> usize
             let the_place = sequence.place;
             let at = put_kr_place(tape, at, the_place);
             let the_first = sequence.first;
-            let at = put_maybe_word(tape, at, the_first);
+            let at = the_first.put(tape, at);
             let the_modify = sequence.modify;
             let at = put_kr_modify(tape, at, the_modify);
             zeros(tape, at, 10)
@@ -131,7 +132,7 @@ pub fn get_bringup(words: &[u32], at: usize) -> Bringup
     } else if kind == 6 {
         Bringup::Kr(Sequence {
             place: get_kr_place(words, after(words, at, 1)),
-            first: get_maybe_word(words, after(words, at, 4)),
+            first: Option::get(words, after(words, at, 4)),
             modify: get_kr_modify(words, after(words, after(words, at, 4), 2)),
         })
     } else if kind == 7 {

@@ -10,9 +10,9 @@ use crate::p_phy::{
 };
 use answers::Speeds;
 use kr::sequence::Sequence;
+use packed_access::packed::Packed;
 use packed_access::read::{after, byte, is, word_at};
 use packed_access::tape::{flag, wide_byte, word, zeros};
-use packed_answers::p_answers::{get_maybe_word, put_maybe_word};
 use phy::advertise::Advertise;
 use phy::scan::Scan;
 use x552::link::CopperLink;
@@ -136,7 +136,7 @@ pub fn put_copper_link(tape: &mut [u32; 65], at: usize, s: CopperLink) -> usize
             let the_place = sequence.place;
             let at = put_kr_place(tape, at, the_place);
             let the_first = sequence.first;
-            let at = put_maybe_word(tape, at, the_first);
+            let at = the_first.put(tape, at);
             let the_modify = sequence.modify;
             put_kr_modify(tape, at, the_modify)
         },
@@ -195,7 +195,7 @@ pub fn get_copper_link(words: &[u32], at: usize) -> CopperLink
             },
             Sequence {
                 place: get_kr_place(words, after(words, at, 4)),
-                first: get_maybe_word(words, after(words, at, 7)),
+                first: Option::get(words, after(words, at, 7)),
                 modify: get_kr_modify(words, after(words, after(words, at, 7), 2)),
             },
         )

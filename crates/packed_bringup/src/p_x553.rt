@@ -7,9 +7,9 @@ use crate::p_activity::{get_activity, put_activity};
 use crate::p_kr::{get_kr_modify, get_kr_place, put_kr_modify, put_kr_place};
 use answers::{FirmwarePhy, SgmiiSetup};
 use kr::sequence::Sequence;
+use packed_access::packed::Packed;
 use packed_access::read::{after, half, is, word_at};
 use packed_access::tape::{flag, wide, word, zeros};
-use packed_answers::p_answers::{get_maybe_word, put_maybe_word};
 use x553::firmware::SetupFirmware;
 use x553::prepare::{FirmwarePlace, PrepareFirmware};
 use x553::sgmii::Sgmii;
@@ -110,7 +110,7 @@ pub fn put_sgmii(tape: &mut [u32; 65], at: usize, s: Sgmii) -> usize
             let the_place = sequence.place;
             let at = put_kr_place(tape, at, the_place);
             let the_first = sequence.first;
-            let at = put_maybe_word(tape, at, the_first);
+            let at = the_first.put(tape, at);
             let the_modify = sequence.modify;
             put_kr_modify(tape, at, the_modify)
         },
@@ -144,7 +144,7 @@ pub fn get_sgmii(words: &[u32], at: usize) -> Sgmii
             },
             Sequence {
                 place: get_kr_place(words, after(words, at, 4)),
-                first: get_maybe_word(words, after(words, at, 7)),
+                first: Option::get(words, after(words, at, 7)),
                 modify: get_kr_modify(words, after(words, after(words, at, 7), 2)),
             },
         )
@@ -182,7 +182,7 @@ pub fn put_sgmii_an(tape: &mut [u32; 65], at: usize, s: SgmiiAn) -> usize
             let the_place = sequence.place;
             let at = put_kr_place(tape, at, the_place);
             let the_first = sequence.first;
-            let at = put_maybe_word(tape, at, the_first);
+            let at = the_first.put(tape, at);
             let the_modify = sequence.modify;
             put_kr_modify(tape, at, the_modify)
         },
@@ -210,7 +210,7 @@ pub fn get_sgmii_an(words: &[u32], at: usize) -> SgmiiAn
             word_at(words, at, 1),
             Sequence {
                 place: get_kr_place(words, after(words, at, 2)),
-                first: get_maybe_word(words, after(words, at, 5)),
+                first: Option::get(words, after(words, at, 5)),
                 modify: get_kr_modify(words, after(words, after(words, at, 5), 2)),
             },
         )
@@ -255,7 +255,7 @@ pub fn put_setup_firmware(tape: &mut [u32; 65], at: usize, s: SetupFirmware) -> 
             let at = word(tape, at, 5);
             let at = word(tape, at, firmware_phy.id);
             let at = word(tape, at, wide(firmware_phy.speeds));
-            let at = put_maybe_word(tape, at, maybe_word);
+            let at = maybe_word.put(tape, at);
             let at = put_activity(tape, at, activity);
             zeros(tape, at, 4)
         },
@@ -307,7 +307,7 @@ pub fn get_setup_firmware(words: &[u32], at: usize) -> SetupFirmware
                 id: word_at(words, at, 1),
                 speeds: half(word_at(words, at, 2)),
             },
-            get_maybe_word(words, after(words, at, 3)),
+            Option::get(words, after(words, at, 3)),
             get_activity(words, after(words, at, 5)),
         )
     }

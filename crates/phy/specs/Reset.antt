@@ -1,15 +1,14 @@
 -- What a suspended `reset` still says, from what its job gives
+use Rattle.access.specs.declared.access.Job.{Job}
+use Rattle.access.specs.Access.{told_job}
+use Rattle.hardware.specs.declared.Step.{Step}
+use Rattle.hardware.specs.Talk.{Call, Res, end, pick, is_clear, ◌>>=◌, return, fail}
 use Rattle.std.specs.Prelude.{ℕ, Bool, List}
-use Rattle.hardware.specs.Talk.{Call, Res, end, and_then, pick, is_clear, ◌>>=◌, return, fail}
-use Rattle.hardware.specs.Told.{unit_of}
 use Rattle.hardware.specs.declared.Error.TheVariants.{PhyReset}
 use Rattle.hardware.specs.declared.Port.{Port}
 use Rattle.reference.specs.Mdio.{reset_times, reset_poll, reset_done, reset_last}
-use Rattle.access.specs.Access.{job_talk}
 use Rattle.phy.specs.declared.reset.Reset.{Reset}
 use Rattle.phy.specs.declared.reset.Reset.TheVariants as reset
-use Rattle.phy.specs.declared.reset.ResetStep.{ResetStep}
-use Rattle.phy.specs.declared.reset.ResetStep.TheVariants as resetstep
 
 -- what a poll read
 abbrev pub reset_seen : Port → ℕ → Bool → ℕ → ℕ → Call (Unit {0})
@@ -32,6 +31,5 @@ got_reset port phy x557 reset.Checking v = reset_checked v
 abbrev pub resume_reset : Port → ℕ → Bool → Reset → Res ℕ → Call (Unit {0})
 resume_reset port phy x557 s got = end got >>= λ v. got_reset port phy x557 s v
 
-abbrev pub told_reset : Port → ℕ → Bool → List ℕ → ResetStep → Call (Unit {0})
-told_reset port phy x557 b (resetstep.Ask job s) = and_then (job_talk port job b) (λ p. resume_reset port phy x557 s p.0)
-told_reset port phy x557 b (resetstep.Done r) = end (unit_of r)
+abbrev pub told_reset : Port → ℕ → Bool → List ℕ → Step Job Reset (Res (Unit {0})) → Call (Unit {0})
+told_reset port phy x557 b = told_job port b (λ s got _. resume_reset port phy x557 s got)

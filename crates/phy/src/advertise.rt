@@ -1,29 +1,20 @@
 // mdio.rs's `advertise`: three or four calls of `modify`.
 ghost use Rattle.std.specs.Prelude.{ℕ, List, ◌≡◌};
-ghost use Rattle.hardware.specs.Told.{word_of};
 ghost use Rattle.reference.specs.Mdio.{bit, nbase_keep, nbase_set};
 ghost use Rattle.phy.specs.Modify.{told_modify};
-ghost use Rattle.phy.specs.Advertise.{maybe_of, register_at, register_of, advertise_of, advertise_at, advertise_then, advertise_after, resume_advertise, told_advertise};
+ghost use Rattle.phy.specs.Advertise.{register_at, register_of, advertise_of, advertise_at, advertise_then, advertise_after, resume_advertise, told_advertise};
 
-use crate::modify::{Modify, ModifyStep, Register};
+use crate::modify::{Modify, Register};
 use access::access::Job;
 use answers::Speeds;
-use hardware::{Port, Word};
-use hostif::token::Flag;
-
-// Option<bool>
-#[derive(Clone, Copy)]
-pub enum MaybeFlag {
-    Nothing,
-    Is(bool),
-}
+use hardware::{Error, Port, Step};
 
 // advertise's arguments.
 #[derive(Clone, Copy)]
 pub struct Advertised {
     pub phy: u32,
     pub speeds: Speeds,
-    pub nbase: MaybeFlag,
+    pub nbase: Option<bool>,
     pub veto: bool,
 }
 
@@ -42,13 +33,6 @@ pub struct Advertise {
     pub modify: Modify,
 }
 
-// Done: whether it was restarted.
-#[derive(Clone, Copy)]
-pub enum AdvertiseStep {
-    Ask(Job, Advertise),
-    Done(Flag),
-}
-
 #[tactic(auto, unfolding(reference::specs::Mdio::bit))]
 fn bit(mask: u16, on: bool) -> u16
     ensures { bit mask on ≡ result }
@@ -56,29 +40,27 @@ fn bit(mask: u16, on: bool) -> u16
     if on { mask } else { 0 }
 }
 
-impl MaybeFlag {
+impl Advertised {
     #[tactic(auto, unfolding(reference::specs::Mdio::nbase_keep))]
-    fn keep(self) -> u16
-        ensures { nbase_keep (maybe_of self) ≡ result }
+    fn keep(nbase: Option<bool>) -> u16
+        ensures { nbase_keep nbase ≡ result }
     {
-        match self {
-            MaybeFlag::Nothing => 0x7fff,
-            MaybeFlag::Is(_) => 0x73ff,
+        match nbase {
+            None => 0x7fff,
+            Some(_) => 0x73ff,
         }
     }
 
     #[tactic(auto, unfolding(reference::specs::Mdio::nbase_set))]
-    fn set(self, g1: bool) -> u16
-        ensures { nbase_set (maybe_of self) g1 ≡ result }
+    fn set(nbase: Option<bool>, g1: bool) -> u16
+        ensures { nbase_set nbase g1 ≡ result }
     {
-        match self {
-            MaybeFlag::Nothing => bit(0x8000, g1),
-            MaybeFlag::Is(on) => bit(0xc00, on) | bit(0x8000, g1),
+        match nbase {
+            None => bit(0x8000, g1),
+            Some(on) => bit(0xc00, on) | bit(0x8000, g1),
         }
     }
-}
 
-impl Advertised {
     // A register of AN.
     fn at(self, register: u16, keep: u16, set: u16) -> Register
         ensures { register_at self register keep set ≡ result }
@@ -99,7 +81,10 @@ impl Advertised {
         let nbase = self.nbase;
         match place {
             AdvertisePlace::Ten => self.at(0x20, 0xefff, bit(0x1000, speeds.g10)),
-            AdvertisePlace::One => self.at(0xc400, nbase.keep(), nbase.set(speeds.g1)),
+            AdvertisePlace::One => {
+                let keep = Advertised::keep(nbase);
+                self.at(0xc400, keep, Advertised::set(nbase, speeds.g1))
+            }
             AdvertisePlace::Hundred => self.at(0x10, 0xfe7f, bit(0x100, speeds.m100)),
             AdvertisePlace::Restart => self.at(0, 0xffff, 0x200),
         }
@@ -107,15 +92,24 @@ impl Advertised {
 }
 
 impl Advertise {
-    fn begin(asked: Advertised, port: Port, place: AdvertisePlace) -> AdvertiseStep
+    #[tactic(auto, using(hardware::proofs::Laws::then_assoc))]
+    fn begin(
+        asked: Advertised,
+        port: Port,
+        place: AdvertisePlace,
+    ) -> Step<Job, Advertise, Result<bool, Error>>
         ensures { (b : List ℕ) → told_advertise port asked b result ≡ advertise_at port asked place }
     {
         let job = Modify::first(asked.register(place), port);
         let modify = Modify::Reading;
-        AdvertiseStep::Ask(job, Advertise { place, modify })
+        Step::Ask(job, Advertise { place, modify })
     }
 
-    fn then(asked: Advertised, port: Port, place: AdvertisePlace) -> AdvertiseStep
+    fn then(
+        asked: Advertised,
+        port: Port,
+        place: AdvertisePlace,
+    ) -> Step<Job, Advertise, Result<bool, Error>>
         ensures { (b : List ℕ) → told_advertise port asked b result ≡ advertise_then port asked place }
     {
         match place {
@@ -123,41 +117,46 @@ impl Advertise {
             AdvertisePlace::One => Advertise::begin(asked, port, AdvertisePlace::Hundred),
             AdvertisePlace::Hundred => {
                 if asked.veto {
-                    AdvertiseStep::Done(Flag::Ok(false))
+                    Step::Done(Ok(false))
                 } else {
                     Advertise::begin(asked, port, AdvertisePlace::Restart)
                 }
             }
-            AdvertisePlace::Restart => AdvertiseStep::Done(Flag::Ok(true)),
+            AdvertisePlace::Restart => Step::Done(Ok(true)),
         }
     }
 
+    #[tactic(auto, using(hardware::proofs::Laws::then_assoc))]
     fn after_modify(
         asked: Advertised,
         port: Port,
         place: AdvertisePlace,
-        step: ModifyStep,
-    ) -> AdvertiseStep
+        step: Step<Job, Modify, Result<u32, Error>>,
+    ) -> Step<Job, Advertise, Result<bool, Error>>
         ensures { (b : List ℕ) → told_advertise port asked b result ≡ advertise_after port asked place (told_modify port (register_of asked place) b step) }
     {
         match step {
-            ModifyStep::Ask(job, modify) => AdvertiseStep::Ask(job, Advertise { place, modify }),
-            ModifyStep::Done(r) => match r {
-                Word::Err(e) => AdvertiseStep::Done(Flag::Err(e)),
-                Word::Ok(_) => Advertise::then(asked, port, place),
-            },
+            Step::Ask(job, modify) => Step::Ask(job, Advertise { place, modify }),
+            Step::Done(Err(e)) => Step::Done(Err(e)),
+            Step::Done(Ok(_)) => Advertise::then(asked, port, place),
         }
     }
 
     #[tactic(auto, unfolding(reference::specs::Mdio::advertise))]
-    pub fn start(asked: Advertised, port: Port) -> AdvertiseStep
+    pub fn start(asked: Advertised, port: Port) -> Step<Job, Advertise, Result<bool, Error>>
         ensures { (b : List ℕ) → told_advertise port asked b result ≡ advertise_of port asked }
     {
         Advertise::begin(asked, port, AdvertisePlace::Ten)
     }
 
-    pub fn next(self, asked: Advertised, port: Port, got: Word) -> AdvertiseStep
-        ensures { (b : List ℕ) → told_advertise port asked b result ≡ resume_advertise port asked self (word_of got) }
+    #[tactic(auto, using(hardware::proofs::Laws::then_assoc))]
+    pub fn next(
+        self,
+        asked: Advertised,
+        port: Port,
+        got: Result<u32, Error>,
+    ) -> Step<Job, Advertise, Result<bool, Error>>
+        ensures { (b : List ℕ) → told_advertise port asked b result ≡ resume_advertise port asked self got }
     {
         let place = self.place;
         let modify = self.modify;

@@ -1,25 +1,16 @@
 // The MDIO clock: x552.rs's `slow_mdio` and x553.rs's `set_mdio_speed`.
 ghost use Rattle.std.specs.Prelude.{ℕ, List, ◌≡◌};
-ghost use Rattle.hardware.specs.Told.{word_of};
 ghost use Rattle.reference.specs.X552.{mdcspd, mdio_clock};
 ghost use Rattle.reference.specs.X553.{firmware_phy, slow_device};
-ghost use Rattle.phy.specs.Advertise.{maybe_of};
 ghost use Rattle.phy.specs.Clock.{speed_of, resume_clock, told_clock};
 
-use crate::advertise::MaybeFlag;
 use access::access::Job;
-use hardware::{Family, Port, Unit, Word};
+use hardware::{Error, Family, Port, Step};
 
 #[derive(Clone, Copy)]
 pub enum Clock {
     Reading,
     Writing,
-}
-
-#[derive(Clone, Copy)]
-pub enum ClockStep {
-    Ask(Job, Clock),
-    Done(Unit),
 }
 
 // x553.rs's `firmware_phy`.
@@ -48,25 +39,25 @@ impl Clock {
     pub const MDCSPD: u32 = 0x1_0000;
 
     // What the clock of a port is set to: whether fast, or nothing.
-    pub fn of(port: Port) -> MaybeFlag
-        ensures { speed_of port ≡ maybe_of result }
+    pub fn of(port: Port) -> Option<bool>
+        ensures { speed_of port ≡ result }
     {
         let family = port.family;
         match family {
             Family::X552 => {
                 if port.device == 0x15ad {
-                    MaybeFlag::Is(false)
+                    Some(false)
                 } else {
-                    MaybeFlag::Nothing
+                    None
                 }
             }
             Family::X553 => {
                 if slow_device(port.device) {
-                    MaybeFlag::Is(false)
+                    Some(false)
                 } else if firmware_phy(port.device) {
-                    MaybeFlag::Is(true)
+                    Some(true)
                 } else {
-                    MaybeFlag::Nothing
+                    None
                 }
             }
         }
@@ -83,23 +74,28 @@ impl Clock {
         }
     }
 
-    pub fn start(fast: bool, port: Port) -> ClockStep
+    pub fn start(fast: bool, port: Port) -> Step<Job, Clock, Result<(), Error>>
         ensures { (b : List ℕ) → told_clock port fast b result ≡ mdio_clock fast }
     {
-        ClockStep::Ask(Job::Read(Port::HLREG0), Clock::Reading)
+        Step::Ask(Job::Read(Port::HLREG0), Clock::Reading)
     }
 
-    pub fn next(self, fast: bool, port: Port, got: Word) -> ClockStep
-        ensures { (b : List ℕ) → told_clock port fast b result ≡ resume_clock fast self (word_of got) }
+    pub fn next(
+        self,
+        fast: bool,
+        port: Port,
+        got: Result<u32, Error>,
+    ) -> Step<Job, Clock, Result<(), Error>>
+        ensures { (b : List ℕ) → told_clock port fast b result ≡ resume_clock fast self got }
     {
         match got {
-            Word::Err(e) => ClockStep::Done(Unit::Err(e)),
-            Word::Ok(hlreg0) => match self {
-                Clock::Reading => ClockStep::Ask(
+            Err(e) => Step::Done(Err(e)),
+            Ok(hlreg0) => match self {
+                Clock::Reading => Step::Ask(
                     Job::Write(Port::HLREG0, Clock::set(fast, hlreg0)),
                     Clock::Writing,
                 ),
-                Clock::Writing => ClockStep::Done(Unit::Ok),
+                Clock::Writing => Step::Done(Ok(())),
             },
         }
     }

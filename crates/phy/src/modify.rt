@@ -1,10 +1,9 @@
 // mdio.rs's `modify`: a read and a write, each an access of its own.
 ghost use Rattle.std.specs.Prelude.{ℕ, List, ◌≡◌};
-ghost use Rattle.hardware.specs.Told.{word_of};
 ghost use Rattle.phy.specs.Modify.{modify_of, begun_modify, resume_modify, told_modify};
 
 use access::access::Job;
-use hardware::{Port, Word};
+use hardware::{Error, Port, Step};
 
 // modify's arguments. The bits to keep and to set stand for the Rust's closure.
 #[derive(Clone, Copy)]
@@ -23,13 +22,6 @@ pub enum Modify {
     Writing(u16),
 }
 
-// Done: the value written.
-#[derive(Clone, Copy)]
-pub enum ModifyStep {
-    Ask(Job, Modify),
-    Done(Word),
-}
-
 impl Register {
     // MDIO devices.
     pub const PMA: u32 = 1;
@@ -43,31 +35,36 @@ impl Register {
 
 impl Modify {
     // The job that it begins with, as Reading.
-    #[tactic(auto, unfolding(reference::specs::Mdio::modify))]
+    #[tactic(auto, using(hardware::proofs::Laws::then_assoc), unfolding(reference::specs::Mdio::modify))]
     pub fn first(at: Register, port: Port) -> Job
         ensures { (b : List ℕ) → begun_modify port at b result ≡ modify_of port at }
     {
         Job::ReadReg(at.phy, at.device, at.register)
     }
 
-    pub fn start(at: Register, port: Port) -> ModifyStep
+    pub fn start(at: Register, port: Port) -> Step<Job, Modify, Result<u32, Error>>
         ensures { (b : List ℕ) → told_modify port at b result ≡ modify_of port at }
     {
-        ModifyStep::Ask(Modify::first(at, port), Modify::Reading)
+        Step::Ask(Modify::first(at, port), Modify::Reading)
     }
 
-    pub fn next(self, at: Register, port: Port, got: Word) -> ModifyStep
-        ensures { (b : List ℕ) → told_modify port at b result ≡ resume_modify port at self (word_of got) }
+    pub fn next(
+        self,
+        at: Register,
+        port: Port,
+        got: Result<u32, Error>,
+    ) -> Step<Job, Modify, Result<u32, Error>>
+        ensures { (b : List ℕ) → told_modify port at b result ≡ resume_modify port at self got }
     {
         match got {
-            Word::Err(e) => ModifyStep::Done(Word::Err(e)),
-            Word::Ok(v) => match self {
+            Err(e) => Step::Done(Err(e)),
+            Ok(v) => match self {
                 Modify::Reading => {
                     let value = (v & at.keep as u32 | at.set as u32) as u16;
                     let job = Job::WriteReg(at.phy, at.device, at.register, value);
-                    ModifyStep::Ask(job, Modify::Writing(value))
+                    Step::Ask(job, Modify::Writing(value))
                 }
-                Modify::Writing(value) => ModifyStep::Done(Word::Ok(value as u32)),
+                Modify::Writing(value) => Step::Done(Ok(value as u32)),
             },
         }
     }

@@ -1,13 +1,12 @@
 // mdio.rs's `reset`: up to 30 polls, 100 ms apart.
 ghost use Rattle.std.specs.Prelude.{ℕ, List, ◌≡◌};
 ghost use Rattle.hardware.specs.Talk.{end};
-ghost use Rattle.hardware.specs.Told.{unit_of, word_of};
 ghost use Rattle.reference.specs.Mdio.{reset, reset_times, reset_poll};
 ghost use Rattle.phy.specs.Reset.{reset_checked, reset_seen, resume_reset, told_reset};
 
 use crate::modify::Register;
 use access::access::Job;
-use hardware::{Error, Port, Unit, Word};
+use hardware::{Error, Port, Step};
 
 // The number is how many polls are left after this one.
 #[derive(Clone, Copy)]
@@ -19,39 +18,41 @@ pub enum Reset {
     Checking,
 }
 
-#[derive(Clone, Copy)]
-pub enum ResetStep {
-    Ask(Job, Reset),
-    Done(Unit),
-}
-
 impl Reset {
     // After the polls, whatever they saw, the register is read once more.
-    fn again(phy: u32, x557: bool, port: Port, left: u32) -> ResetStep
+    #[tactic(auto, using(hardware::proofs::Laws::then_assoc, hardware::proofs::Laws::times_more, hardware::proofs::Laws::times_none))]
+    fn again(phy: u32, x557: bool, port: Port, left: u32) -> Step<Job, Reset, Result<(), Error>>
         ensures { (b : List ℕ) → told_reset port phy x557 b result ≡ reset_times port phy x557 left }
     {
         if left == 0 {
-            ResetStep::Ask(Job::ReadReg(phy, Register::PHY_XS, 0), Reset::Checking)
+            Step::Ask(Job::ReadReg(phy, Register::PHY_XS, 0), Reset::Checking)
         } else {
-            ResetStep::Ask(Job::Wait(100_000), Reset::Waiting(left - 1))
+            Step::Ask(Job::Wait(100_000), Reset::Waiting(left - 1))
         }
     }
 
-    fn poll(phy: u32, x557: bool, port: Port, left: u32) -> ResetStep
+    #[tactic(auto, using(hardware::proofs::Laws::then_assoc))]
+    fn poll(phy: u32, x557: bool, port: Port, left: u32) -> Step<Job, Reset, Result<(), Error>>
         ensures { (b : List ℕ) → told_reset port phy x557 b result ≡ reset_poll port phy x557 (reset_times port phy x557 left) }
     {
         if x557 {
-            ResetStep::Ask(
+            Step::Ask(
                 Job::ReadReg(phy, Register::PMA, 0xcc02),
                 Reset::Polling(left),
             )
         } else {
-            ResetStep::Ask(Job::ReadReg(phy, Register::PHY_XS, 0), Reset::Polling(left))
+            Step::Ask(Job::ReadReg(phy, Register::PHY_XS, 0), Reset::Polling(left))
         }
     }
 
     // The X557 sets a bit when it is done, any other PHY clears one.
-    fn seen(phy: u32, x557: bool, port: Port, left: u32, v: u32) -> ResetStep
+    fn seen(
+        phy: u32,
+        x557: bool,
+        port: Port,
+        left: u32,
+        v: u32,
+    ) -> Step<Job, Reset, Result<(), Error>>
         ensures { (b : List ℕ) → told_reset port phy x557 b result ≡ reset_seen port phy x557 left v }
     {
         if x557 {
@@ -61,43 +62,50 @@ impl Reset {
         } else if v & 0x8000 != 0 {
             return Reset::again(phy, x557, port, left);
         }
-        ResetStep::Ask(Job::Wait(2), Reset::Settling)
+        Step::Ask(Job::Wait(2), Reset::Settling)
     }
 
-    fn checked(v: u32) -> Unit
-        ensures { reset_checked v ≡ end (unit_of result) }
+    fn checked(v: u32) -> Result<(), Error>
+        ensures { reset_checked v ≡ end result }
     {
         if v & 0x8000 == 0 {
-            Unit::Ok
+            Ok(())
         } else {
-            Unit::Err(Error::PhyReset)
+            Err(Error::PhyReset)
         }
     }
 
     #[tactic(auto, unfolding(reference::specs::Mdio::reset))]
-    pub fn start(phy: u32, x557: bool, port: Port) -> ResetStep
+    pub fn start(phy: u32, x557: bool, port: Port) -> Step<Job, Reset, Result<(), Error>>
         ensures { (b : List ℕ) → told_reset port phy x557 b result ≡ reset port phy x557 }
     {
-        ResetStep::Ask(
+        Step::Ask(
             Job::WriteReg(phy, Register::PHY_XS, 0, 0x8000),
             Reset::Starting,
         )
     }
 
-    pub fn next(self, phy: u32, x557: bool, port: Port, got: Word) -> ResetStep
-        ensures { (b : List ℕ) → told_reset port phy x557 b result ≡ resume_reset port phy x557 self (word_of got) }
+    #[tactic(auto, using(hardware::proofs::Laws::then_assoc))]
+    pub fn next(
+        self,
+        phy: u32,
+        x557: bool,
+        port: Port,
+        got: Result<u32, Error>,
+    ) -> Step<Job, Reset, Result<(), Error>>
+        ensures { (b : List ℕ) → told_reset port phy x557 b result ≡ resume_reset port phy x557 self got }
     {
         match got {
-            Word::Err(e) => ResetStep::Done(Unit::Err(e)),
-            Word::Ok(v) => match self {
+            Err(e) => Step::Done(Err(e)),
+            Ok(v) => match self {
                 Reset::Starting => Reset::again(phy, x557, port, 30),
                 Reset::Waiting(left) => Reset::poll(phy, x557, port, left),
                 Reset::Polling(left) => Reset::seen(phy, x557, port, left, v),
-                Reset::Settling => ResetStep::Ask(
+                Reset::Settling => Step::Ask(
                     Job::ReadReg(phy, Register::PHY_XS, 0),
                     Reset::Checking,
                 ),
-                Reset::Checking => ResetStep::Done(Reset::checked(v)),
+                Reset::Checking => Step::Done(Reset::checked(v)),
             },
         }
     }

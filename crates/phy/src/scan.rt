@@ -1,15 +1,12 @@
 // mdio.rs's `scan`.
 ghost use Rattle.std.specs.Prelude.{ℕ, List, ◌≡◌};
-ghost use Rattle.hardware.specs.Told.{word_of};
 ghost use Rattle.reference.specs.Mdio.{scan, scan_from};
 ghost use Rattle.phy.specs.Probe.{told_probe};
 ghost use Rattle.phy.specs.Scan.{scan_after, resume_scan, told_scan};
 
-use crate::probe::{Probe, ProbeStep, Probed};
+use crate::probe::Probe;
 use access::access::Job;
-use answers::Scanned;
-use hardware::{Error, Port, Word};
-use words::phy::PhyId;
+use hardware::{Error, Port, Step};
 
 // The PHY that is probed.
 #[derive(Clone, Copy)]
@@ -18,26 +15,14 @@ pub struct Scan {
     pub probe: Probe,
 }
 
-// R<Option<(u8, u32)>>
-#[derive(Clone, Copy)]
-pub enum Searched {
-    Ok(Scanned),
-    Err(Error),
-}
-
-#[derive(Clone, Copy)]
-pub enum ScanStep {
-    Ask(Job, Scan),
-    Done(Searched),
-}
-
 impl Scan {
-    fn each(port: Port, phy: u32) -> ScanStep
+    #[tactic(auto, using(hardware::proofs::Laws::each_more, hardware::proofs::Laws::each_none, hardware::proofs::Laws::then_assoc))]
+    fn each(port: Port, phy: u32) -> Step<Job, Scan, Result<Option<(u8, u32)>, Error>>
         ensures { (b : List ℕ) → told_scan port b result ≡ scan_from port phy }
     {
         if phy < 32 {
             let probe = Probe::High;
-            ScanStep::Ask(
+            Step::Ask(
                 Probe::first(phy, port),
                 Scan {
                     phy: phy as u8,
@@ -45,34 +30,40 @@ impl Scan {
                 },
             )
         } else {
-            ScanStep::Done(Searched::Ok(Scanned::Nothing))
+            Step::Done(Ok(None))
         }
     }
 
-    fn after_probe(port: Port, phy: u8, step: ProbeStep) -> ScanStep
+    #[tactic(auto, using(hardware::proofs::Laws::then_assoc))]
+    fn after_probe(
+        port: Port,
+        phy: u8,
+        step: Step<Job, Probe, Result<Option<u32>, Error>>,
+    ) -> Step<Job, Scan, Result<Option<(u8, u32)>, Error>>
         ensures { (b : List ℕ) → told_scan port b result ≡ scan_after port phy (told_probe port phy b step) }
     {
         match step {
-            ProbeStep::Ask(job, probe) => ScanStep::Ask(job, Scan { phy, probe }),
-            ProbeStep::Done(r) => match r {
-                Probed::Err(e) => ScanStep::Done(Searched::Err(e)),
-                Probed::Ok(id) => match id {
-                    PhyId::Nothing => Scan::each(port, phy as u32 + 1),
-                    PhyId::Id(id) => ScanStep::Done(Searched::Ok(Scanned::At(phy, id))),
-                },
-            },
+            Step::Ask(job, probe) => Step::Ask(job, Scan { phy, probe }),
+            Step::Done(Err(e)) => Step::Done(Err(e)),
+            Step::Done(Ok(None)) => Scan::each(port, phy as u32 + 1),
+            Step::Done(Ok(Some(id))) => Step::Done(Ok(Some((phy, id)))),
         }
     }
 
     #[tactic(auto, unfolding(reference::specs::Mdio::scan))]
-    pub fn start(port: Port) -> ScanStep
+    pub fn start(port: Port) -> Step<Job, Scan, Result<Option<(u8, u32)>, Error>>
         ensures { (b : List ℕ) → told_scan port b result ≡ scan port }
     {
         Scan::each(port, 0)
     }
 
-    pub fn next(self, port: Port, got: Word) -> ScanStep
-        ensures { (b : List ℕ) → told_scan port b result ≡ resume_scan port self (word_of got) }
+    #[tactic(auto, using(hardware::proofs::Laws::then_assoc))]
+    pub fn next(
+        self,
+        port: Port,
+        got: Result<u32, Error>,
+    ) -> Step<Job, Scan, Result<Option<(u8, u32)>, Error>>
+        ensures { (b : List ℕ) → told_scan port b result ≡ resume_scan port self got }
     {
         let phy = self.phy;
         let probe = self.probe;

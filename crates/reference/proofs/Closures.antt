@@ -1,8 +1,8 @@
 -- Each closure of the Rust keeps the bits and sets the bits that the definitions say
+use Rattle.std.specs.Prelude.{Option, None, Some}
 use Prim.Native.Nat.{ℕ, zero, suc, ◌+◌, ◌-◌, ◌*◌, ◌/◌, ◌%◌, ◌^◌, ◌<◌}
 use mathlib.Core.Path.{◌≡◌, refl, sym, ap, ap₂, ◌∙◌}
 use mathlib.Core.Bool.{Bool, true, false, not, ◌&&◌, ◌||◌, false≢true}
-use mathlib.Core.Option.{Option, none, some}
 use native.Mathlib.Omega.{arith}
 use native.Mathlib.Nat.{pow-suc, mod-lt, zero-lt-suc, div-add-mod', mod-eq_of_lt}
 use lib.Bits.{bit_and, bit_or, and_lt, or_lt, and_mask, or_zero_r}
@@ -177,12 +177,12 @@ module _ (v : ℕ) (h : v < 2 ^ 16) where
 
   pub one : (nbase : Option Bool) (g1 : Bool) → rust.one nbase g1 v ≡ changed (nbase_keep nbase) (nbase_set nbase g1) v
   unfolding mdio.bit nbase_keep nbase_set
-  one none true = sym (not_kept 16 v 0x8000 h (omega arith) (omega arith))
-  one none false = clears16 0x7fff
-  one (some true) true = or_assoc 16 v 0xc00 0x8000 h (omega arith) (omega arith) ∙ sym (not_kept 16 v 0x8c00 h (omega arith) (omega arith))
-  one (some true) false = set_clear 16 v 0xc00 0x7fff h (omega arith) (omega arith) ∙ after 0x7fff 0xc00 (omega arith) (omega arith) (omega arith)
-  one (some false) true = after 0xf3ff 0x8000 (omega arith) (omega arith) (omega arith)
-  one (some false) false = and_assoc 16 v 0xf3ff 0x7fff h (omega arith) (omega arith) ∙ clears16 0x73ff
+  one None true = sym (not_kept 16 v 0x8000 h (omega arith) (omega arith))
+  one None false = clears16 0x7fff
+  one (Some true) true = or_assoc 16 v 0xc00 0x8000 h (omega arith) (omega arith) ∙ sym (not_kept 16 v 0x8c00 h (omega arith) (omega arith))
+  one (Some true) false = set_clear 16 v 0xc00 0x7fff h (omega arith) (omega arith) ∙ after 0x7fff 0xc00 (omega arith) (omega arith) (omega arith)
+  one (Some false) true = after 0xf3ff 0x8000 (omega arith) (omega arith) (omega arith)
+  one (Some false) false = and_assoc 16 v 0xf3ff 0x7fff h (omega arith) (omega arith) ∙ clears16 0x73ff
 
   pub hundred : (m100 : Bool) → rust.hundred m100 v ≡ changed (0xffff - 0x180) (mdio.bit 0x100 m100) v
   unfolding mdio.bit

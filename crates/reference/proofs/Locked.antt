@@ -1,4 +1,5 @@
 -- `locked` is the Rust's, and `locked_bits` is `locked` where the mask has no TOKEN
+use Rattle.std.specs.Prelude.{Ok, Err}
 use Prim.Native.Nat.{ℕ, zero, suc, ◌+◌, ◌-◌, ◌*◌, ◌/◌, ◌%◌, ◌^◌, ◌<◌, min}
 use mathlib.Core.Path.{◌≡◌, refl, sym, ap, ap₂, ◌∙◌, fun_ext}
 use mathlib.Core.Bool.{true}
@@ -7,7 +8,7 @@ use native.Mathlib.Omega.{arith}
 use native.Mathlib.Nat.{pow-suc, mod-lt, zero-lt-suc, div-add-mod'}
 use lib.Bits.{bit_and, and_step, and_zero_l}
 use borrow.Author.Tests.{eqb-true, ne_eqb}
-use Rattle.hardware.specs.Talk.{Talk, Call, Res, ok, err, end, and_then, or_stop, ◌>>=◌, ◌>>◌, attempt, return, is_clear}
+use Rattle.hardware.specs.Talk.{Talk, Call, Res, end, and_then, or_stop, ◌>>=◌, ◌>>◌, attempt, return, is_clear}
 use Rattle.hardware.specs.Block.{keep}
 use Rattle.hardware.specs.declared.Port.{Port}
 use Rattle.hardware.proofs.Laws.{then_end, then_assoc}
@@ -45,11 +46,11 @@ unfolding acquire
 acquire_bits_lem port mask h c = rw c (ap (acquire_bits port) (no_token mask h c))
 
 -- a unit's value is known
-same_unit : (r : Res (Unit {0})) → or_stop (λ (_ : Unit {0}). end (ok tt)) r ≡ end r
-same_unit (ok _) = refl
-same_unit (err e) = refl
+same_unit : (r : Res (Unit {0})) → or_stop (λ (_ : Unit {0}). end (Ok tt)) r ≡ end r
+same_unit (Ok _) = refl
+same_unit (Err e) = refl
 
-last_unit : (t : Call (Unit {0})) → (t >> end (ok tt)) ≡ t
+last_unit : (t : Call (Unit {0})) → (t >> end (Ok tt)) ≡ t
 last_unit t = ap (and_then t) (fun_ext same_unit) ∙ then_end t
 
 pub release_bits_lem : (port : Port) (mask : ℕ) → mask < 2 ^ 32 → is_clear mask 0x40000000 ≡ true → (mask ≡ 0 → ⊥) → release port mask ≡ release_bits port mask
@@ -89,18 +90,18 @@ locked_lines {A = A} port mask body =
     lines result = attempt (release port mask) >>= (λ released. end result >>= (λ value. end released >> return value))
 
     given : (result : Res A) (released : Res (Unit {0})) → end (both result released) ≡ (end result >>= (λ value. end released >> return value))
-    given (err e) released = refl
-    given (ok value) (err e) = refl
-    given (ok value) (ok _) = refl
+    given (Err e) released = refl
+    given (Ok value) (Err e) = refl
+    given (Ok value) (Ok _) = refl
 
     done : (result : Res A) → and_then (release port mask) (λ released. end (both result released)) ≡ lines result
     done result =
         ap (and_then (release port mask)) (fun_ext (given result))
-        ∙ sym (then_assoc (release port mask) (λ r. end (ok r)) (or_stop (λ released. end result >>= (λ value. end released >> return value))))
+        ∙ sym (then_assoc (release port mask) (λ r. end (Ok r)) (or_stop (λ released. end result >>= (λ value. end released >> return value))))
 
     taken : (r : Res (Unit {0})) → held_taken plain (release port mask) body r ≡ or_stop (λ (_ : Unit {0}). attempt body >>= lines) r
-    taken (err e) = refl
-    taken (ok _) = ap (and_then body) (fun_ext done) ∙ sym (then_assoc body (λ r. end (ok r)) (or_stop lines))
+    taken (Err e) = refl
+    taken (Ok _) = ap (and_then body) (fun_ext done) ∙ sym (then_assoc body (λ r. end (Ok r)) (or_stop lines))
 
 -- a body that leaves the host block alone is held in the same way with the block beside it
 pub held_keep : {A : Type 0} (take give : Call (Unit {0})) (body : Call A) (b : List ℕ)
@@ -112,8 +113,8 @@ held_keep {A = A} take give body b =
     done x = then_assoc give (held_given plain x) (λ r. end (r, b))
 
     taken : (r : Res (Unit {0})) → and_then (held_taken plain give body r) (λ x. end (x, b)) ≡ held_taken (with_block b) give (keep body b) r
-    taken (err e) = refl
-    taken (ok _) =
+    taken (Err e) = refl
+    taken (Ok _) =
         then_assoc body (held_done plain give) (λ r. end (r, b))
         ∙ ap (and_then body) (fun_ext done)
         ∙ sym (then_assoc body (λ r. end (r, b)) (held_done (with_block b) give))

@@ -1,10 +1,11 @@
 -- Bounds of the forms that the definitions are made of
+use Rattle.std.specs.Prelude.{Ok, Err}
 use Prim.Native.Nat.{ℕ, zero, suc, ◌+◌, ◌*◌}
 use mathlib.Core.List.{List}
 use native.Mathlib.Omega.{arith}
 use native.Mathlib.Nat.{suc-mul}
 use Rattle.hardware.specs.Bound.{Within, at_end, at_ask}
-use Rattle.hardware.specs.Talk.{Talk, Call, Res, ok, err, end, and_then, ◌>>=◌, attempt, times, read, read_raw, write, flush, delay}
+use Rattle.hardware.specs.Talk.{Talk, Call, Res, end, and_then, ◌>>=◌, attempt, times, read, read_raw, write, flush, delay}
 use Rattle.hardware.specs.Block as blk
 use Rattle.hardware.specs.declared.Action.TheVariants as action
 use Rattle.hardware.proofs.Bounds.{within_more, within_then, within_stop}
@@ -69,8 +70,8 @@ of_held {X} ending {give = give} {body = body} {n' = n'} {m' = m'} {k = k} {l = 
     given = within_then b (λ x. within_more (omega arith) (omega arith) (within_then {n' = 0} {m' = 0} g (λ r. at_end)))
 
     taken : (r : Res (Unit {0})) → Within (held_taken ending give body r) (k + n') (l + m')
-    taken (err e) = at_end
-    taken (ok _) = given
+    taken (Err e) = at_end
+    taken (Ok _) = given
 
 -- what leaves the host block alone, and the Rust's `?` of a function that is lent it
 pub of_keep : {A : Type 0} {t : Call A} {n m : ℕ} (b : List ℕ) → Within t n m → Within (blk.keep t b) n m
@@ -81,5 +82,5 @@ pub of_lent : {A B : Type 0} {t : Talk (Res A × List ℕ)} {k : A → List ℕ 
 of_lent {k = k} {n' = n'} {m' = m'} w h = within_then w (λ p. go p.0 p.1)
   where
     go : (r : Res _) (b : List ℕ) → Within (blk.or_stop k r b) n' m'
-    go (ok a) b = h a b
-    go (err e) b = at_end
+    go (Ok a) b = h a b
+    go (Err e) b = at_end

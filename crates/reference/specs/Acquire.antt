@@ -1,7 +1,7 @@
 -- sync.rs: `acquire`, `release` and `locked`, with TOKEN
-use Rattle.std.specs.Prelude.{ℕ, Bool, true, false, eqb}
+use Rattle.std.specs.Prelude.{ℕ, Bool, true, false, eqb, Ok, Err}
 use Rattle.hardware.specs.Bits.{without}
-use Rattle.hardware.specs.Talk.{Talk, Call, Res, ok, err, end, ◌>>=◌, ◌>>◌, attempt, times, pick, is_clear, delay, return, fail}
+use Rattle.hardware.specs.Talk.{Talk, Call, Res, end, ◌>>=◌, ◌>>◌, attempt, times, pick, is_clear, delay, return, fail}
 use Rattle.hardware.specs.declared.Error.TheVariants.{Firmware}
 use Rattle.hardware.specs.declared.Port.{Port}
 use Rattle.reference.specs.Sync.{Ending, held, acquire_bits, release_bits}
@@ -27,9 +27,9 @@ acquire_given port hw again granted =
       acquire_lost granted again)
 
 unfoldable pub acquire_got : Port → ℕ → Call (Unit {0}) → Res Bool → Call (Unit {0})
-acquire_got port hw again (ok true) = return tt
-acquire_got port hw again (ok false) = acquire_given port hw again (ok false)
-acquire_got port hw again (err e) = acquire_given port hw again (err e)
+acquire_got port hw again (Ok true) = return tt
+acquire_got port hw again (Ok false) = acquire_given port hw again (Ok false)
+acquire_got port hw again (Err e) = acquire_given port hw again (Err e)
 
 unfoldable pub acquire_ask : Port → ℕ → Call (Unit {0}) → Call (Unit {0})
 acquire_ask port hw again =
@@ -59,13 +59,13 @@ release_rest port hw token =
       end token)
 
 abbrev pub forget : Res Bool → Res (Unit {0})
-forget (ok _) = ok tt
-forget (err e) = err e
+forget (Ok _) = Ok tt
+forget (Err e) = Err e
 
 -- sync.rs:134
 unfoldable pub release : Port → ℕ → Call (Unit {0})
 release port mask =
-    pick (is_clear mask 0x40000000) (release_rest port (hw_of mask) (ok tt))
+    pick (is_clear mask 0x40000000) (release_rest port (hw_of mask) (Ok tt))
     (do
       given ← attempt (token port false)
       release_rest port (hw_of mask) (forget given))

@@ -1,7 +1,6 @@
 -- The closures that the Rust hands to `kr_modify` and `modify`, as they stand there: proofs/Closures.antt has that each one
 -- keeps and sets the bits that X552.antt, X553.antt and Mdio.antt say
-use Rattle.std.specs.Prelude.{ℕ, ◌-◌, Bool}
-use Rattle.std.proofs.Math.Option.{Option, none, some}
+use Rattle.std.specs.Prelude.{ℕ, ◌-◌, Bool, Option, None, Some}
 use Rattle.std.specs.Int.Bits.{bit_and, bit_or}
 use Rattle.hardware.specs.Bits.{without}
 use Rattle.hardware.specs.Talk.{pick}
@@ -73,8 +72,8 @@ abbrev pub ten : Bool → ℕ → ℕ
 ten g10 v = bit v 0x1000 g10
 
 abbrev pub nbased : Option Bool → ℕ → ℕ
-nbased none v = v
-nbased (some on) v = bit v (bit_or 0x800 0x400) on
+nbased None v = v
+nbased (Some on) v = bit v (bit_or 0x800 0x400) on
 
 abbrev pub one : Option Bool → Bool → ℕ → ℕ
 one nbase g1 v = bit (nbased nbase v) 0x8000 g1

@@ -1,10 +1,8 @@
 -- A run over a list of replies, for worked examples
-use Rattle.std.specs.Prelude.{ℕ, ◌+◌, List, [], ◌∷◌}
-use Rattle.hardware.specs.Talk.{Talk, end, ask}
+use Rattle.std.specs.Prelude.{ℕ, ◌+◌, List, [], ◌∷◌, Ok}
+use Rattle.hardware.specs.Talk.{Talk, end, ask, Reply}
 use Rattle.hardware.specs.declared.Action.{Action}
 use Rattle.hardware.specs.declared.Action.TheVariants.{Read, Write, Wait}
-use Rattle.hardware.specs.declared.Reply.{Reply}
-use Rattle.hardware.specs.declared.Reply.TheVariants.{Done}
 
 -- how it stands after so many actions and microseconds: ended with an answer, or an action is due and no reply is left
 pub data Run (A : Type 0) : Type 0 where
@@ -14,7 +12,7 @@ pub data Run (A : Type 0) : Type 0 where
 -- a wait uses no reply
 abbrev pub run : {A : Type 0} → ℕ → ℕ → Talk A → List Reply → Run A
 run n m (end a) rs = ended n m a
-run n m (ask (Wait micros) k) rs = run (n + 1) (m + micros) (k (Done 0)) rs
+run n m (ask (Wait micros) k) rs = run (n + 1) (m + micros) (k (Ok 0)) rs
 run n m (ask (Read reg) k) [] = due n m (Read reg)
 run n m (ask (Read reg) k) (r ∷ rs) = run (n + 1) m (k r) rs
 run n m (ask (Write reg v) k) [] = due n m (Write reg v)

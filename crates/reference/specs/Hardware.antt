@@ -1,11 +1,9 @@
 -- hardware.rs: `veto` and `link`
-use Rattle.std.specs.Prelude.{ℕ, ◌/◌, ◌^◌, Bool, not, eqb}
+use Rattle.std.specs.Prelude.{ℕ, ◌/◌, ◌^◌, Bool, not, eqb, Option, None, Some}
 use Rattle.std.specs.Int.Bits.{bit_and}
 use Rattle.hardware.specs.Talk.{Call, ◌>>=◌, read, return, pick, is_clear}
 use Rattle.hardware.specs.declared.Family.{Family}
 use Rattle.hardware.specs.declared.Family.TheVariants.{X552, X553}
-use Rattle.words.specs.declared.link.Megabits.{Megabits}
-use Rattle.words.specs.declared.link.Megabits.TheVariants.{Nothing, Is}
 use Rattle.words.specs.declared.link.Link.{Link}
 use Rattle.words.specs.declared.link.Link.TheVariants.{Down, Up}
 
@@ -17,17 +15,17 @@ abbrev pub veto : Call Bool
 veto = read 0x42d0 >>= vetoed
 
 -- hardware.rs:360
-abbrev pub code0 : Family → Megabits
-code0 X552 = Nothing
-code0 X553 = Is 10
+abbrev pub code0 : Family → Option ℕ
+code0 X552 = None
+code0 X553 = Some 10
 
-abbrev pub megabits : Family → ℕ → Bool → Megabits
+abbrev pub megabits : Family → ℕ → Bool → Option ℕ
 megabits family code nonStd =
     pick (eqb code 0) (code0 family)
-    (pick (eqb code 1) (Is 100)
-    (pick (eqb code 2) (Is 1000)
-    (pick (eqb code 3) (pick nonStd (Is 2500) (Is 10000))
-    Nothing)))
+    (pick (eqb code 1) (Some 100)
+    (pick (eqb code 2) (Some 1000)
+    (pick (eqb code 3) (pick nonStd (Some 2500) (Some 10000))
+    None)))
 
 unfoldable pub linked : Family → ℕ → Call Link
 linked family value =

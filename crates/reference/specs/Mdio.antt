@@ -1,6 +1,5 @@
 -- mdio.rs
-use Rattle.std.specs.Prelude.{ℕ, ◌+◌, ◌-◌, ◌/◌, ◌^◌, Bool, true, false, not, ◌||◌, eqb}
-use Rattle.std.proofs.Math.Option.{Option, none, some}
+use Rattle.std.specs.Prelude.{ℕ, ◌+◌, ◌-◌, ◌/◌, ◌^◌, Bool, true, false, not, ◌||◌, eqb, Option, None, Some}
 use Rattle.std.specs.Int.Bits.{bit_and, bit_or}
 use Rattle.hardware.specs.Talk.{Call, ◌>>=◌, ◌>>◌, times, pick, is_clear, read, read_raw, write, delay, return, fail}
 use Rattle.hardware.specs.declared.Error.TheVariants.{Timeout, PhyReset}
@@ -9,10 +8,6 @@ use Rattle.hardware.specs.declared.Family.TheVariants.{X552, X553}
 use Rattle.hardware.specs.declared.Port.{Port}
 use Rattle.words.specs.Mdio.{address, COMMAND, OP-READ, OP-WRITE}
 use Rattle.words.specs.Phy.{phy_id}
-use Rattle.words.specs.declared.phy.PhyId.{PhyId}
-use Rattle.words.specs.declared.phy.PhyId.TheVariants as phyidv
-use Rattle.answers.specs.declared.Scanned.{Scanned}
-use Rattle.answers.specs.declared.Scanned.TheVariants as scannedv
 use Rattle.answers.specs.declared.Speeds.{Speeds}
 use Rattle.reference.specs.Sync as sync
 use Rattle.reference.specs.Acquire.{locked}
@@ -82,29 +77,29 @@ modify port phy dev reg keep set =
       v ← read_reg port phy dev reg
       modified port phy dev reg (changed keep set v)
 
-abbrev pub probe_high : Port → ℕ → ℕ → Call PhyId
+abbrev pub probe_high : Port → ℕ → ℕ → Call (Option ℕ)
 probe_high port phy high =
-    pick (eqb high 0 || eqb high 0xffff) (return phyidv.Nothing)
+    pick (eqb high 0 || eqb high 0xffff) (return None)
     (do
       low ← read_reg port phy 1 3
       return (phy_id high low))
 
 -- mdio.rs:68
-unfoldable pub probe : Port → ℕ → Call PhyId
+unfoldable pub probe : Port → ℕ → Call (Option ℕ)
 probe port phy = read_reg port phy 1 2 >>= probe_high port phy
 
-abbrev pub scan_found : (ℕ → Call Scanned) → ℕ → PhyId → Call Scanned
-scan_found again phy phyidv.Nothing = again (phy + 1)
-scan_found again phy (phyidv.Id id) = return (scannedv.At phy id)
+abbrev pub scan_found : (ℕ → Call (Option (ℕ × ℕ))) → ℕ → Option ℕ → Call (Option (ℕ × ℕ))
+scan_found again phy None = again (phy + 1)
+scan_found again phy (Some id) = return (Some (phy, id))
 
-abbrev pub scan_turn : Port → (ℕ → Call Scanned) → ℕ → Call Scanned
+abbrev pub scan_turn : Port → (ℕ → Call (Option (ℕ × ℕ))) → ℕ → Call (Option (ℕ × ℕ))
 scan_turn port again phy = probe port phy >>= scan_found again phy
 
-abbrev pub scan_from : Port → ℕ → Call Scanned
-scan_from port phy = times (32 - phy) (scan_turn port) (λ _. return scannedv.Nothing) phy
+abbrev pub scan_from : Port → ℕ → Call (Option (ℕ × ℕ))
+scan_from port phy = times (32 - phy) (scan_turn port) (λ _. return None) phy
 
 -- mdio.rs:76
-unfoldable pub scan : Port → Call Scanned
+unfoldable pub scan : Port → Call (Option (ℕ × ℕ))
 scan port = scan_from port 0
 
 -- after the polls, whatever they saw
@@ -156,12 +151,12 @@ bit mask on = pick on mask 0
 
 -- 7.c400's bits 10 and 11, 5G and 2.5G: kept, or both set or cleared
 unfoldable pub nbase_keep : Option Bool → ℕ
-nbase_keep none = 0xffff - 0x8000
-nbase_keep (some _) = 0xffff - 0x8c00
+nbase_keep None = 0xffff - 0x8000
+nbase_keep (Some _) = 0xffff - 0x8c00
 
 unfoldable pub nbase_set : Option Bool → Bool → ℕ
-nbase_set none g1 = bit 0x8000 g1
-nbase_set (some on) g1 = bit_or (bit 0xc00 on) (bit 0x8000 g1)
+nbase_set None g1 = bit 0x8000 g1
+nbase_set (Some on) g1 = bit_or (bit 0xc00 on) (bit 0x8000 g1)
 
 abbrev pub advertise_restart : Port → ℕ → Call Bool
 advertise_restart port phy =

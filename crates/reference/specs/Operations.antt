@@ -1,6 +1,5 @@
 -- The 25 operations of document 01
-use Rattle.std.specs.Prelude.{ℕ, Bool, List, [], length}
-use Rattle.std.proofs.Math.Option.{Option}
+use Rattle.std.specs.Prelude.{ℕ, Bool, List, [], length, Option}
 use Rattle.hardware.specs.Talk.{Talk, Call, Res, ◌>>=◌, return}
 use Rattle.hardware.specs.Block.{keep}
 use Rattle.hardware.specs.Block as blk
@@ -8,7 +7,6 @@ use Rattle.hardware.specs.declared.Family.{Family}
 use Rattle.hardware.specs.declared.Family.TheVariants as familyv
 use Rattle.hardware.specs.declared.Port.{Port}
 use Rattle.answers.specs.declared.Internal.{Internal}
-use Rattle.answers.specs.declared.MaybeStatus.{MaybeStatus}
 use Rattle.answers.specs.declared.Speeds.{Speeds}
 use Rattle.answers.specs.declared.Value.{Value}
 use Rattle.answers.specs.declared.Value.TheVariants as valuev
@@ -44,7 +42,7 @@ pub data Op : Type 0 where
   NvmWord : (word : ℕ) → Op
   AfterReset : Op
   Bringup : (veto : Bool) → Op
-  Poll : (phy : ℕ) → Internal → (forced : MaybeStatus) → (reforced : ℕ) → Op
+  Poll : (phy : ℕ) → Internal → (forced : Option ℕ) → (reforced : ℕ) → Op
 
 -- what an operation ends with: its answer, and the host block of a `command` as it is then
 abbrev pub Out : Type 0

@@ -1,28 +1,8 @@
 -- sync.rs: the register semaphore, and the bits of SW_FW_SYNC. TOKEN is in Acquire.antt
-use Rattle.std.specs.Prelude.{ℕ, Bool, true, false, not, ◌&&◌, List, eqb}
+use Rattle.std.specs.Prelude.{ℕ, Bool, true, false, not, ◌&&◌, List, eqb, Ok, Err}
 use Rattle.std.specs.Int.Bits.{bit_and, bit_or}
 use Rattle.hardware.specs.Bits.{without}
-use Rattle.hardware.specs.Talk.{
-  Talk,
-  Call,
-  Res,
-  ok,
-  err,
-  end,
-  and_then,
-  ◌>>=◌,
-  ◌>>◌,
-  attempt,
-  times,
-  pick,
-  is_clear,
-  read,
-  write,
-  flush,
-  delay,
-  return,
-  fail,
-}
+use Rattle.hardware.specs.Talk.{Talk, Call, Res, end, and_then, ◌>>=◌, ◌>>◌, attempt, times, pick, is_clear, read, write, flush, delay, return, fail}
 use Rattle.hardware.specs.declared.Error.{Error}
 use Rattle.hardware.specs.declared.Error.TheVariants.{Semaphore}
 use Rattle.hardware.specs.declared.Family.{Family}
@@ -115,8 +95,8 @@ acquire_bits_taken switch = pick switch (set_mux true) (return tt)
 
 -- with what SW_FW_SYNC gave
 abbrev pub acquire_bits_got : Regs → Bits → Bool → (ℕ → Call (Unit {0})) → Res ℕ → Call (Unit {0})
-acquire_bits_got pair want switch again (err e) = unlock pair >> fail e
-acquire_bits_got pair want switch again (ok v) =
+acquire_bits_got pair want switch again (Err e) = unlock pair >> fail e
+acquire_bits_got pair want switch again (Ok v) =
     pick (is_clear v (busy want))
     (do
       taken ← attempt (write pair.sync (bit_or v want.sw))
@@ -171,15 +151,15 @@ pub record Ending (X : Type 0) : Type 0 where
 
 -- the body's error, then the release's
 abbrev pub both : {A : Type 0} → Res A → Res (Unit {0}) → Res A
-both (err e) released = err e
-both (ok value) (err e) = err e
-both (ok value) (ok _) = ok value
+both (Err e) released = Err e
+both (Ok value) (Err e) = Err e
+both (Ok value) (Ok _) = Ok value
 
 abbrev pub plain : {A : Type 0} → Ending (Res A)
-plain = record { before = err; after = both }
+plain = record { before = Err; after = both }
 
 abbrev pub with_block : {A : Type 0} → List ℕ → Ending (Res A × List ℕ)
-with_block b = record { before = λ e. (err e, b); after = λ p released. (both p.0 released, p.1) }
+with_block b = record { before = λ e. (Err e, b); after = λ p released. (both p.0 released, p.1) }
 
 abbrev pub held_given : {X : Type 0} → Ending X → X → Res (Unit {0}) → Talk X
 held_given ending x released = end (ending.after x released)
@@ -188,8 +168,8 @@ abbrev pub held_done : {X : Type 0} → Ending X → Call (Unit {0}) → X → T
 held_done ending give x = and_then give (held_given ending x)
 
 abbrev pub held_taken : {X : Type 0} → Ending X → Call (Unit {0}) → Talk X → Res (Unit {0}) → Talk X
-held_taken ending give body (err e) = end (ending.before e)
-held_taken ending give body (ok _) = and_then body (held_done ending give)
+held_taken ending give body (Err e) = end (ending.before e)
+held_taken ending give body (Ok _) = and_then body (held_done ending give)
 
 -- sync.rs:186: take, the body, give, whatever the body ended with
 abbrev pub held : {X : Type 0} → Ending X → Call (Unit {0}) → Call (Unit {0}) → Talk X → Talk X

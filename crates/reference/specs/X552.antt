@@ -1,6 +1,5 @@
 -- x552.rs, with no SFP; `Watch` is in Watch.antt. `pause` is the wait of `iosf_idle`, in microseconds
-use Rattle.std.specs.Prelude.{ℕ, ◌-◌, ◌/◌, ◌%◌, ◌^◌, Bool, true, false, [], ◌∷◌, eqb}
-use Rattle.std.proofs.Math.Option.{none}
+use Rattle.std.specs.Prelude.{ℕ, ◌-◌, ◌/◌, ◌%◌, ◌^◌, Bool, true, false, [], ◌∷◌, eqb, Option, None, Some}
 use Rattle.std.specs.Int.Bits.{bit_or}
 use Rattle.hardware.specs.Bits.{without}
 use Rattle.hardware.specs.Talk.{Call, ◌>>=◌, ◌>>◌, times, pick, is_clear, read, read_raw, write, delay, return, fail}
@@ -10,13 +9,9 @@ use Rattle.hardware.specs.declared.Family.TheVariants.{X552, X553}
 use Rattle.hardware.specs.declared.Port.{Port}
 use Rattle.words.specs.Hostif.{nvm_address}
 use Rattle.words.specs.Kr.{krm}
-use Rattle.words.specs.declared.phy.PhyId.{PhyId}
-use Rattle.words.specs.declared.phy.PhyId.TheVariants as phyidv
 use Rattle.answers.specs.declared.CopperSetup.{CopperSetup}
 use Rattle.answers.specs.declared.Internal.{Internal}
 use Rattle.answers.specs.declared.Internal.TheVariants.{Ixfi, Kr}
-use Rattle.answers.specs.declared.Scanned.{Scanned}
-use Rattle.answers.specs.declared.Scanned.TheVariants as scannedv
 use Rattle.answers.specs.declared.Setup552.{Setup552}
 use Rattle.answers.specs.declared.Setup552.TheVariants as setupv
 use Rattle.answers.specs.declared.Speeds.{Speeds}
@@ -190,13 +185,13 @@ prepare_alarms port veto phy id sel alarms =
 abbrev pub prepare_found : Port → Bool → ℕ → ℕ → ℕ → Call X557
 prepare_found port veto phy id sel = read_reg port phy 1 0xcc02 >>= prepare_alarms port veto phy id sel
 
-abbrev pub prepare_probed : Port → Bool → ℕ → ℕ → PhyId → Call X557
-prepare_probed port veto sel phy phyidv.Nothing = fail NoPhy
-prepare_probed port veto sel phy (phyidv.Id id) = prepare_found port veto phy id sel
+abbrev pub prepare_probed : Port → Bool → ℕ → ℕ → Option ℕ → Call X557
+prepare_probed port veto sel phy None = fail NoPhy
+prepare_probed port veto sel phy (Some id) = prepare_found port veto phy id sel
 
-abbrev pub prepare_scanned : Port → Bool → ℕ → Scanned → Call X557
-prepare_scanned port veto sel scannedv.Nothing = fail NoPhy
-prepare_scanned port veto sel (scannedv.At phy id) = prepare_found port veto phy id sel
+abbrev pub prepare_scanned : Port → Bool → ℕ → Option (ℕ × ℕ) → Call X557
+prepare_scanned port veto sel None = fail NoPhy
+prepare_scanned port veto sel (Some (phy, id)) = prepare_found port veto phy id sel
 
 -- the PHY that NW_MNG_IF_SEL names, with no scan
 abbrev pub prepare_sel : Port → Bool → ℕ → Call X557
@@ -240,7 +235,7 @@ without100 s = record { g10 = s.g10; g1 = s.g1; m100 = false }
 abbrev pub copper_advertise : Port → Bool → X557 → Speeds → Call CopperSetup
 copper_advertise port veto x s =
     do
-      restarted ← advertise port x.phy s none veto
+      restarted ← advertise port x.phy s None veto
       return (record { x557 = x; advertised = s; restarted = restarted })
 
 -- ten waits with no link are no error

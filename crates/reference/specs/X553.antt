@@ -1,13 +1,11 @@
 -- x553.rs, with no SFP. `pause` is the wait of `iosf_idle`, in microseconds
-use Rattle.std.specs.Prelude.{ℕ, Bool, true, false, not, ◌||◌, eqb}
+use Rattle.std.specs.Prelude.{ℕ, Bool, true, false, not, ◌||◌, eqb, Option, None, Some}
 use Rattle.std.specs.Int.Bits.{bit_and, bit_or}
 use Rattle.hardware.specs.Talk.{Call, ◌>>=◌, ◌>>◌, pick, is_clear, read, return, fail}
 use Rattle.hardware.specs.declared.Error.TheVariants.{NoPhy}
 use Rattle.hardware.specs.declared.Port.{Port}
 use Rattle.words.specs.Kr.{krm}
 use Rattle.answers.specs.declared.FirmwarePhy.{FirmwarePhy}
-use Rattle.answers.specs.declared.MaybeWord.{MaybeWord}
-use Rattle.answers.specs.declared.MaybeWord.TheVariants as maybev
 use Rattle.answers.specs.declared.Setup553.{Setup553}
 use Rattle.answers.specs.declared.Setup553.TheVariants as setupv
 use Rattle.answers.specs.declared.Words.{Words}
@@ -108,11 +106,11 @@ sgmii_an pause port =
       restart_an pause port
       return flx
 
-abbrev pub firmware_set : FirmwarePhy → MaybeWord → Bool → Call Setup553
+abbrev pub firmware_set : FirmwarePhy → Option ℕ → Bool → Call Setup553
 firmware_set phy internal overtemp = return (setupv.Firmware (record { phy = phy; internal = internal; overtemp = overtemp }))
 
 -- too hot: the link is forced down
-abbrev pub firmware_down : Port → FirmwarePhy → MaybeWord → Call Setup553
+abbrev pub firmware_down : Port → FirmwarePhy → Option ℕ → Call Setup553
 firmware_down port phy internal =
     do
       phy_activity port 4 1 0 0 0
@@ -120,10 +118,10 @@ firmware_down port phy internal =
 
 abbrev pub firmware_linked : Port → FirmwarePhy → ℕ → Bool → Call Setup553
 firmware_linked port phy flx down =
-    pick down (firmware_down port phy (maybev.Is flx))
+    pick down (firmware_down port phy (Some flx))
     (do
       info ← phy_activity port 3 0 0 0 0
-      pick (is_clear info.w0 0x2000000) (firmware_set phy (maybev.Is flx) false) (firmware_down port phy (maybev.Is flx)))
+      pick (is_clear info.w0 0x2000000) (firmware_set phy (Some flx) false) (firmware_down port phy (Some flx)))
 
 abbrev pub firmware_up : ℕ → Port → FirmwarePhy → Call Setup553
 firmware_up pause port phy =
@@ -134,7 +132,7 @@ firmware_up pause port phy =
 
 -- one that is down already is not set up again
 unfoldable pub setup_firmware : ℕ → Port → FirmwarePhy → Bool → Call Setup553
-setup_firmware pause port phy down = pick down (firmware_down port phy maybev.Nothing) (firmware_up pause port phy)
+setup_firmware pause port phy down = pick down (firmware_down port phy None) (firmware_up pause port phy)
 
 abbrev pub setup_prepared : ℕ → Port → Bool → Prepared → Call Setup553
 setup_prepared pause port veto nothing = fail NoPhy
@@ -144,8 +142,8 @@ setup_prepared pause port veto (x557 x) =
       return (setupv.X557 s)
 setup_prepared pause port veto (firmware phy reset down) =
     pick reset
-    (vetoed veto (firmware_set phy maybev.Nothing false) (setup_firmware pause port phy down))
-    (firmware_set phy maybev.Nothing false)
+    (vetoed veto (firmware_set phy None false) (setup_firmware pause port phy down))
+    (firmware_set phy None false)
 
 abbrev pub setup_kr : ℕ → Port → Call Setup553
 setup_kr pause port =

@@ -6,7 +6,7 @@ use console::listing::listing;
 use console::talk::Listed;
 use std::io;
 use std::io::{Read, Write};
-use streams::input::{Input, Next, fetch, is_case};
+use streams::input::{Fetched, Input, Next, fetch, is_case};
 use streams::output::{flush, print};
 use streams::part::part;
 
@@ -44,7 +44,7 @@ fn line<R: Read, W: Write>(
     Ok(Listed { input, n })
 }
 
-// All cases up to the end of the input. A loop has to end, so it counts its turns down; no input has as many lines.
+// All cases up to the end of the input. A loop has to end, so its turns are counted; no input has as many lines.
 fn cases<R: Read, W: Write>(
     source: &mut R,
     buf: &mut [u8],
@@ -55,17 +55,12 @@ fn cases<R: Read, W: Write>(
         input: Input::new(false),
         n: 0,
     };
-    let mut turns: u64 = u64::MAX;
-    while turns > 0 {
-        let input = l.input;
-        let f = fetch(source, buf, input.within(false));
-        let next = f.next;
-        let rest = f.input;
+    for _ in 0..u64::MAX {
+        let Fetched { next, input } = fetch(source, buf, l.input.within(false));
         let Next::Line(start, end) = next else {
             break;
         };
-        l = line(source, buf, rest, start, end, sink, out, l.n)?;
-        turns -= 1;
+        l = line(source, buf, input, start, end, sink, out, l.n)?;
     }
     Ok(l.n)
 }

@@ -1,70 +1,61 @@
 // `acquire` and `release` over a script.
-ghost use Rattle.access.specs.Hold.{told_hold};
-ghost use Rattle.drive.specs.Moves.{tape, Moves};
+ghost use Rattle.access.specs.Hold.{resume_hold};
 
-use crate::command;
-use access::hold::{Hold, HoldStep};
-use drive::{Acted, Host, act};
-use hardware::{Action, Port};
+use crate::command::CommandCall;
+use crate::lent::{Lent, Runs, run, single};
+use access::hold::Hold;
+use drive::{Host, machine};
+use hardware::{Action, Error, Port, Reply, Step};
 
+// The mask without TOKEN.
 #[derive(Clone, Copy)]
-pub struct HoldRan {
-    pub host: Host,
-    pub step: HoldStep,
+pub struct HoldCall {
+    pub port: Port,
+    pub hw: u32,
 }
 
-fn single(
-    s: Hold,
-    a: Action,
-    port: Port,
-    hw: u32,
-    block: &mut [u32; 16],
-    h: Host,
-    replies: &[u32],
-    t: &mut [u32],
-) -> HoldRan
-    ensures { Moves replies.now (told_hold port hw block.old (HoldStep.Ask a s)) (tape h t.old) (told_hold port hw block.new result.step) (tape result.host t.new) }
-{
-    match act(h, a, replies, t) {
-        Acted::Short => HoldRan {
-            host: h,
-            step: HoldStep::Ask(a, s),
-        },
-        Acted::Is(host, reply) => {
-            let step = s.next(port, hw, block, reply);
-            HoldRan { host, step }
+impl Lent for Hold {
+    type Context = HoldCall;
+
+    type Answer = Result<(), Error>;
+
+    type End = Result<(), Error>;
+
+    ghost resume = { λ c s b r. resume_hold c.port c.hw s b r };
+
+    ghost end = { λ c b answer. answer };
+
+    fn next(
+        self,
+        call: HoldCall,
+        block: &mut [u32; 16],
+        reply: Reply,
+    ) -> Step<Action, Hold, Result<(), Error>> {
+        Hold::next(self, call.port, call.hw, block, reply)
+    }
+}
+
+impl Runs for Hold {
+    // acquire_bits, release_bits and the token's command as far as they go; of anything else, one action.
+    fn advance(
+        self,
+        a: Action,
+        call: HoldCall,
+        block: &mut [u32; 16],
+        h: &mut Host,
+        replies: &[u32],
+        t: &mut [u32],
+    ) -> Step<Action, Hold, Result<(), Error>> {
+        let port = call.port;
+        if let Hold::Bits(place, m) = self {
+            let step = machine::run(m, a, call.hw, h, replies, t);
+            return Hold::bits(port, call.hw, block, place, step);
         }
+        if let Hold::Token(place, m) = self {
+            let token = CommandCall { port, words: 2 };
+            let step = run(m, a, token, block, h, replies, t);
+            return Hold::commanded(port, call.hw, place, step);
+        }
+        single(self, a, call, block, h, replies, t)
     }
-}
-
-// acquire_bits, release_bits and the token's command as far as they go; of anything else, one action.
-pub fn run(
-    s: Hold,
-    a: Action,
-    port: Port,
-    hw: u32,
-    block: &mut [u32; 16],
-    h: Host,
-    replies: &[u32],
-    t: &mut [u32],
-) -> HoldRan
-    ensures { Moves replies.now (told_hold port hw block.old (HoldStep.Ask a s)) (tape h t.old) (told_hold port hw block.new result.step) (tape result.host t.new) }
-{
-    if let Hold::Bits(place, m) = s {
-        let r = m.run(a, hw, h, replies, t);
-        let host = r.host;
-        let got = r.step;
-        let step = Hold::bits(port, hw, block, place, got);
-        return HoldRan { host, step };
-    }
-    if let Hold::Token(place, m) = s {
-        let r = command::run_of(m, 2, a, port, block, h, replies, t);
-        let host = r.host;
-        let got = r.step;
-        return HoldRan {
-            host,
-            step: Hold::commanded(port, hw, place, got),
-        };
-    }
-    single(s, a, port, hw, block, h, replies, t)
 }

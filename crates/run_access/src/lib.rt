@@ -4,5 +4,6 @@
 pub mod body;
 pub mod command;
 pub mod hold;
+pub mod lent;
 pub mod locked;
 pub mod under;

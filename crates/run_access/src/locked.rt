@@ -1,81 +1,65 @@
 // `locked` over a script.
-ghost use Rattle.access.specs.Locked.{told_locked};
-ghost use Rattle.drive.specs.Moves.{tape, Moves};
+ghost use Rattle.access.specs.Locked.{resume_locked};
 
-use crate::{body, hold};
+use crate::body;
+use crate::hold::HoldCall;
+use crate::lent::{Lent, Runs, run};
 use access::hold::Hold;
-use access::locked::{Locked, LockedStep};
+use access::locked::Locked;
 use drive::Host;
-use hardware::{Action, Port};
+use hardware::{Action, Error, Port, Reply, Step};
 
 #[derive(Clone, Copy)]
-pub struct LockedRan {
-    pub host: Host,
-    pub step: LockedStep,
+pub struct LockedCall {
+    pub port: Port,
+    pub mask: u32,
 }
 
-// As much as acquire, the body or release takes.
-fn once(
-    s: Locked,
-    a: Action,
-    port: Port,
-    mask: u32,
-    block: &mut [u32; 16],
-    h: Host,
-    replies: &[u32],
-    t: &mut [u32],
-) -> LockedRan
-    ensures { Moves replies.now (told_locked port mask block.old (LockedStep.Ask a s)) (tape h t.old) (told_locked port mask block.new result.step) (tape result.host t.new) }
-{
-    match s {
-        Locked::Hold(place, m) => {
-            let r = hold::run(m, a, port, mask & !Hold::TOKEN, block, h, replies, t);
-            let host = r.host;
-            let got = r.step;
-            let step = Locked::held(port, mask, block, place, got);
-            LockedRan { host, step }
-        }
-        Locked::Body(m) => {
-            let r = body::run(m, a, h, replies, t);
-            let host = r.host;
-            let got = r.step;
-            let step = Locked::after_body(port, mask, block, got);
-            LockedRan { host, step }
-        }
+impl Lent for Locked {
+    type Context = LockedCall;
+
+    type Answer = Result<u32, Error>;
+
+    type End = Result<u32, Error>;
+
+    ghost resume = { λ c s b r. resume_locked c.port c.mask s b r };
+
+    ghost end = { λ c b answer. answer };
+
+    fn next(
+        self,
+        call: LockedCall,
+        block: &mut [u32; 16],
+        reply: Reply,
+    ) -> Step<Action, Locked, Result<u32, Error>> {
+        Locked::next(self, call.port, call.mask, block, reply)
     }
 }
 
-// As far as it goes.
-pub fn run(
-    from: Locked,
-    first: Action,
-    port: Port,
-    mask: u32,
-    block: &mut [u32; 16],
-    host: Host,
-    replies: &[u32],
-    t: &mut [u32],
-) -> LockedRan
-    ensures { Moves replies.now (told_locked port mask block.old (LockedStep.Ask first from)) (tape host t.old) (told_locked port mask block.new result.step) (tape result.host t.new) }
-{
-    let mut s = from;
-    let mut a = first;
-    let mut h = host;
-    loop {
-        let r = once(s, a, port, mask, block, h, replies, t);
-        let next = r.host;
-        let step = r.step;
-        if next.at == h.at {
-            return r;
-        }
-        h = next;
-        match step {
-            LockedStep::Done(_) => {
-                return r;
+impl Runs for Locked {
+    // As much as acquire, the body or release takes.
+    fn advance(
+        self,
+        a: Action,
+        call: LockedCall,
+        block: &mut [u32; 16],
+        h: &mut Host,
+        replies: &[u32],
+        t: &mut [u32],
+    ) -> Step<Action, Locked, Result<u32, Error>> {
+        let port = call.port;
+        match self {
+            Locked::Hold(place, m) => {
+                let hold = HoldCall {
+                    port,
+                    hw: call.mask & !Hold::TOKEN,
+                };
+                let step = run(m, a, hold, block, h, replies, t);
+                Locked::held(port, call.mask, block, place, step)
             }
-            LockedStep::Ask(b, n) => {
-                a = b;
-                s = n;
+            Locked::Body(m) => {
+                let step = body::run(m, a, h, replies, t);
+                Locked::after_body(port, call.mask, block, step)
             }
         }
     }

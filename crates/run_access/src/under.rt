@@ -1,61 +1,45 @@
 // An access over a script.
-ghost use Rattle.access.specs.Access.{told_access};
-ghost use Rattle.drive.specs.Moves.{tape, Moves};
+ghost use Rattle.std.specs.Prelude.{take};
+ghost use Rattle.access.specs.Access.{resume_access};
 
-use crate::locked;
-use access::access::{Access, AccessStep};
-use drive::{Acted, Host, act};
-use hardware::{Action, Port};
+use crate::lent::{Lent, Runs, run, single};
+use crate::locked::LockedCall;
+use access::access::{Access, Given};
+use drive::Host;
+use hardware::{Action, Error, Port, Reply, Step};
 
-#[derive(Clone, Copy)]
-pub struct AccessRan {
-    pub host: Host,
-    pub step: AccessStep,
+impl Lent for Access {
+    type Context = Port;
+
+    type Answer = Given;
+
+    // the word, and the words of the block that belong to it
+    type End = (Result<u32, Error>, [u32; 16]);
+
+    ghost resume = { λ port s b r. resume_access port s b r };
+
+    ghost end = { λ port b given. (given.word, take given.words b) };
+
+    fn next(self, port: Port, block: &mut [u32; 16], reply: Reply) -> Step<Action, Access, Given> {
+        Access::next(self, port, block, reply)
+    }
 }
 
-fn single(
-    s: Access,
-    a: Action,
-    port: Port,
-    block: &mut [u32; 16],
-    h: Host,
-    replies: &[u32],
-    t: &mut [u32],
-) -> AccessRan
-    ensures { Moves replies.now (told_access port block.old (AccessStep.Ask a s)) (tape h t.old) (told_access port block.new result.step) (tape result.host t.new) }
-{
-    match act(h, a, replies, t) {
-        Acted::Short => AccessRan {
-            host: h,
-            step: AccessStep::Ask(a, s),
-        },
-        Acted::Is(host, reply) => {
-            let step = s.next(port, block, reply);
-            AccessRan { host, step }
+impl Runs for Access {
+    // What is done under a lock as far as it goes; of anything else, one action.
+    fn advance(
+        self,
+        a: Action,
+        port: Port,
+        block: &mut [u32; 16],
+        h: &mut Host,
+        replies: &[u32],
+        t: &mut [u32],
+    ) -> Step<Action, Access, Given> {
+        if let Access::Under(mask, m) = self {
+            let step = run(m, a, LockedCall { port, mask }, block, h, replies, t);
+            return Access::under(port, mask, step);
         }
+        single(self, a, port, block, h, replies, t)
     }
-}
-
-// What is done under a lock as far as it goes; of anything else, one action.
-pub fn run(
-    s: Access,
-    a: Action,
-    port: Port,
-    block: &mut [u32; 16],
-    h: Host,
-    replies: &[u32],
-    t: &mut [u32],
-) -> AccessRan
-    ensures { Moves replies.now (told_access port block.old (AccessStep.Ask a s)) (tape h t.old) (told_access port block.new result.step) (tape result.host t.new) }
-{
-    if let Access::Under(mask, m) = s {
-        let r = locked::run(m, a, port, mask, block, h, replies, t);
-        let host = r.host;
-        let got = r.step;
-        return AccessRan {
-            host,
-            step: Access::under(port, mask, got),
-        };
-    }
-    single(s, a, port, block, h, replies, t)
 }

@@ -11,25 +11,19 @@ pub struct Reader<'a> {
     pub at: usize,
 }
 
-// A reply's two words, or that fewer than two are left.
-#[derive(Clone, Copy)]
-pub enum Pair {
-    Is(u32, u32),
-    Nothing,
-}
-
-// The place can be any number, so nothing is added to it before it is known to be in the script.
+// A reply's two words, if both are left. The place can be any number, so nothing is added to it before it is known to be
+// in the script.
 #[tactic(auto, unfolding(crate::specs::Script::pair_at))]
-fn pair_at(replies: &[u32], at: usize) -> Pair
+fn pair_at(replies: &[u32], at: usize) -> Option<(u32, u32)>
     ensures { result ≡ pair_at replies.now at }
 {
     if replies.len() < at {
-        return Pair::Nothing;
+        return None;
     }
     if replies.len() - at < 2 {
-        return Pair::Nothing;
+        return None;
     }
-    Pair::Is(replies[at], replies[at + 1])
+    Some((replies[at], replies[at + 1]))
 }
 
 impl<'a> Reader<'a> {
@@ -39,7 +33,7 @@ impl<'a> Reader<'a> {
         Reader { replies, at }
     }
 
-    pub fn next(self) -> Pair
+    pub fn next(self) -> Option<(u32, u32)>
         ensures { pair_at self.entry.replies.now self.entry.at ≡ result }
     {
         pair_at(self.replies, self.at)
@@ -47,7 +41,7 @@ impl<'a> Reader<'a> {
 }
 
 // Its parameters are plain, so that its callers hold no struct with a reference.
-pub fn read_pair(replies: &[u32], at: usize) -> Pair
+pub fn read_pair(replies: &[u32], at: usize) -> Option<(u32, u32)>
     ensures { pair_at replies.now at ≡ result }
 {
     Reader::new(replies, at).next()

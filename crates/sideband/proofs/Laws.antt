@@ -1,8 +1,8 @@
 -- kr_write's closure, regrouped as the machine goes through it
+use Rattle.hardware.specs.Talk.{Call, ◌>>=◌, ◌>>◌, write, pick, return, fail, is_clear}
 use Prim.Native.Nat.{ℕ}
 use mathlib.Core.Bool.{Bool, true, false}
 use mathlib.Core.Path.{◌≡◌, refl, ap, ◌∙◌, fun_ext}
-use Rattle.hardware.specs.Talk.{Call, ◌>>=◌, ◌>>◌, write, pick, return, fail, is_clear}
 use Rattle.hardware.specs.declared.Error.{Error}
 use Rattle.hardware.specs.declared.Error.TheVariants.{Sideband}
 use Rattle.reference.specs.X552.{iosf_idle, iosf_check}

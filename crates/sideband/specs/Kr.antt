@@ -1,16 +1,15 @@
 -- What the suspended closure of a `kr_read` or `kr_write` still says. `pause` is the wait of `iosf_idle`, in microseconds
+use Rattle.hardware.specs.Told.{told}
+use Rattle.hardware.specs.declared.Action.{Action}
+use Rattle.hardware.specs.declared.Step.{Step}
+use Rattle.hardware.specs.Talk.{Call, Res, end, ◌>>=◌, ◌>>◌, read_raw, write, return, raw, done, Reply}
 use Rattle.std.specs.Prelude.{ℕ}
-use Rattle.hardware.specs.Talk.{Call, Res, ask, end, ◌>>=◌, ◌>>◌, read_raw, write, return, raw, done}
-use Rattle.hardware.specs.Told.{word_of}
-use Rattle.hardware.specs.declared.Reply.{Reply}
 use Rattle.reference.specs.X552.{iosf_idle, iosf_check, kr_read_body, kr_write_body}
 use Rattle.sideband.specs.Idle.{resume_idle}
 use Rattle.sideband.specs.declared.kr.KrWanted.{KrWanted}
 use Rattle.sideband.specs.declared.kr.KrWanted.TheVariants as wanted
 use Rattle.sideband.specs.declared.kr.Kr.{Kr}
 use Rattle.sideband.specs.declared.kr.Kr.TheVariants as kr
-use Rattle.sideband.specs.declared.kr.KrStep.{KrStep}
-use Rattle.sideband.specs.declared.kr.KrStep.TheVariants as krstep
 
 -- the closure that it is; a write gives 0
 abbrev pub kr_body : ℕ → KrWanted → Call ℕ
@@ -63,6 +62,5 @@ resume_kr pause w kr.Select r = kr_selected pause w (done r)
 resume_kr pause w (kr.Second s) r = kr_checked w (resume_idle pause s r)
 resume_kr pause w kr.Data r = kr_data pause w r
 
-abbrev pub told_kr : ℕ → KrWanted → KrStep → Call ℕ
-told_kr pause w (krstep.Ask a s) = ask a (λ r. resume_kr pause w s r)
-told_kr pause w (krstep.Done r) = end (word_of r)
+abbrev pub told_kr : ℕ → KrWanted → Step Action Kr (Res ℕ) → Call ℕ
+told_kr pause w = told (resume_kr pause w)

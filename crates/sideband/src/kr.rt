@@ -1,14 +1,13 @@
 // The closures of x552.rs's `kr_read` and `kr_write`. CTRL selects the register; then a read waits before DATA, a write after it.
 ghost use Rattle.std.specs.Prelude.{◌≡◌};
-ghost use Rattle.hardware.specs.Told.{unit_of};
 ghost use Rattle.reference.specs.X552.{iosf_check};
 ghost use Rattle.sideband.specs.Idle.{told_idle};
-ghost use Rattle.drive.specs.Moves.{tape, Moves};
 ghost use Rattle.sideband.specs.Kr.{kr_address, kr_body, kr_rest, kr_checked, kr_selected, kr_first, kr_data, resume_kr, told_kr};
 
-use crate::idle::{Idle, IdleStep};
-use drive::{Acted, Host, act};
-use hardware::{Action, Error, Reply, Unit, Word};
+use crate::idle::Idle;
+use drive::Host;
+use drive::machine::{Machine, Runs, run, single};
+use hardware::{Action, Error, Reply, Step, done, raw};
 
 // What is asked of the KR PHY.
 #[derive(Clone, Copy)]
@@ -19,6 +18,13 @@ pub enum KrWanted {
     Write(u32, u32),
 }
 
+// What a closure was made with: iosf_idle's wait between two reads, and what is asked.
+#[derive(Clone, Copy)]
+pub struct KrCall {
+    pub pause: u32,
+    pub wanted: KrWanted,
+}
+
 #[derive(Clone, Copy)]
 pub enum Kr {
     // the wait before CTRL is written
@@ -27,13 +33,6 @@ pub enum Kr {
     // the wait whose CTRL has the response
     Second(Idle),
     Data,
-}
-
-// Done: the value read, or 0 after a write
-#[derive(Clone, Copy)]
-pub enum KrStep {
-    Ask(Action, Kr),
-    Done(Word),
 }
 
 impl KrWanted {
@@ -47,195 +46,131 @@ impl KrWanted {
     }
 }
 
-#[derive(Clone, Copy)]
-pub struct KrRan {
-    pub host: Host,
-    pub step: KrStep,
-}
-
 impl Kr {
     pub const DATA: u32 = 0x11148;
 
     pub const RESP_STAT: u32 = 0xc0000;
 
-    fn rest(pause: u32, wanted: KrWanted) -> KrStep
-        ensures { told_kr pause wanted result ≡ kr_rest wanted }
+    fn rest(call: KrCall) -> Step<Action, Kr, Result<u32, Error>>
+        ensures { told_kr call.pause call.wanted result ≡ kr_rest call.wanted }
     {
-        match wanted {
-            KrWanted::Read(_) => KrStep::Ask(Action::Read(Kr::DATA), Kr::Data),
-            KrWanted::Write(_, _) => KrStep::Done(Word::Ok(0)),
+        match call.wanted {
+            KrWanted::Read(_) => Step::Ask(Action::Read(Kr::DATA), Kr::Data),
+            KrWanted::Write(_, _) => Step::Done(Ok(0)),
         }
     }
 
-    fn check(pause: u32, wanted: KrWanted, ctrl: u32) -> KrStep
-        ensures { told_kr pause wanted result ≡ iosf_check (kr_address wanted) ctrl (kr_rest wanted) }
+    fn check(call: KrCall, ctrl: u32) -> Step<Action, Kr, Result<u32, Error>>
+        ensures { told_kr call.pause call.wanted result ≡ iosf_check (kr_address call.wanted) ctrl (kr_rest call.wanted) }
     {
         if ctrl & Kr::RESP_STAT == 0 {
-            Kr::rest(pause, wanted)
+            Kr::rest(call)
         } else {
-            KrStep::Done(Word::Err(Error::Sideband {
-                address: wanted.address(),
+            Step::Done(Err(Error::Sideband {
+                address: call.wanted.address(),
                 ctrl,
             }))
         }
     }
 
-    fn second(pause: u32, wanted: KrWanted, step: IdleStep) -> KrStep
-        ensures { told_kr pause wanted result ≡ kr_checked wanted (told_idle pause step) }
+    fn second(
+        call: KrCall,
+        step: Step<Action, Idle, Result<u32, Error>>,
+    ) -> Step<Action, Kr, Result<u32, Error>>
+        ensures { told_kr call.pause call.wanted result ≡ kr_checked call.wanted (told_idle call.pause step) }
     {
         match step {
-            IdleStep::Ask(a, s) => KrStep::Ask(a, Kr::Second(s)),
-            IdleStep::Done(r) => match r {
-                Word::Err(e) => KrStep::Done(Word::Err(e)),
-                Word::Ok(ctrl) => Kr::check(pause, wanted, ctrl),
+            Step::Ask(a, s) => Step::Ask(a, Kr::Second(s)),
+            Step::Done(r) => match r {
+                Err(e) => Step::Done(Err(e)),
+                Ok(ctrl) => Kr::check(call, ctrl),
             },
         }
     }
 
-    fn selected(pause: u32, wanted: KrWanted, done: Unit) -> KrStep
-        ensures { told_kr pause wanted result ≡ kr_selected pause wanted (unit_of done) }
+    fn selected(call: KrCall, done: Result<(), Error>) -> Step<Action, Kr, Result<u32, Error>>
+        ensures { told_kr call.pause call.wanted result ≡ kr_selected call.pause call.wanted done }
     {
         match done {
-            Unit::Err(e) => KrStep::Done(Word::Err(e)),
-            Unit::Ok => match wanted {
-                KrWanted::Read(_) => Kr::second(pause, wanted, Idle::start(pause)),
-                KrWanted::Write(_, value) => KrStep::Ask(Action::Write(Kr::DATA, value), Kr::Data),
+            Err(e) => Step::Done(Err(e)),
+            Ok(()) => match call.wanted {
+                KrWanted::Read(_) => Kr::second(call, Idle::start(call.pause)),
+                KrWanted::Write(_, value) => Step::Ask(Action::Write(Kr::DATA, value), Kr::Data),
             },
         }
     }
 
-    fn first(pause: u32, wanted: KrWanted, step: IdleStep) -> KrStep
-        ensures { told_kr pause wanted result ≡ kr_first pause wanted (told_idle pause step) }
+    fn first(
+        call: KrCall,
+        step: Step<Action, Idle, Result<u32, Error>>,
+    ) -> Step<Action, Kr, Result<u32, Error>>
+        ensures { told_kr call.pause call.wanted result ≡ kr_first call.pause call.wanted (told_idle call.pause step) }
     {
         match step {
-            IdleStep::Ask(a, s) => KrStep::Ask(a, Kr::First(s)),
-            IdleStep::Done(r) => match r {
-                Word::Err(e) => KrStep::Done(Word::Err(e)),
-                Word::Ok(_) => KrStep::Ask(Action::Write(Idle::CTRL, wanted.address()), Kr::Select),
+            Step::Ask(a, s) => Step::Ask(a, Kr::First(s)),
+            Step::Done(r) => match r {
+                Err(e) => Step::Done(Err(e)),
+                Ok(_) => Step::Ask(Action::Write(Idle::CTRL, call.wanted.address()), Kr::Select),
             },
         }
     }
 
-    fn data(pause: u32, wanted: KrWanted, reply: Reply) -> KrStep
-        ensures { told_kr pause wanted result ≡ kr_data pause wanted reply }
+    fn data(call: KrCall, reply: Reply) -> Step<Action, Kr, Result<u32, Error>>
+        ensures { told_kr call.pause call.wanted result ≡ kr_data call.pause call.wanted reply }
     {
-        match wanted {
-            KrWanted::Read(_) => KrStep::Done(reply.raw()),
-            KrWanted::Write(_, _) => match reply.done() {
-                Unit::Err(e) => KrStep::Done(Word::Err(e)),
-                Unit::Ok => Kr::second(pause, wanted, Idle::start(pause)),
+        match call.wanted {
+            KrWanted::Read(_) => Step::Done(raw(reply)),
+            KrWanted::Write(_, _) => match done(reply) {
+                Err(e) => Step::Done(Err(e)),
+                Ok(()) => Kr::second(call, Idle::start(call.pause)),
             },
         }
     }
 
-    pub fn start(pause: u32, wanted: KrWanted) -> KrStep
-        ensures { told_kr pause wanted result ≡ kr_body pause wanted }
+    pub fn start(call: KrCall) -> Step<Action, Kr, Result<u32, Error>>
+        ensures { told_kr call.pause call.wanted result ≡ kr_body call.pause call.wanted }
     {
-        Kr::first(pause, wanted, Idle::start(pause))
+        Kr::first(call, Idle::start(call.pause))
     }
+}
 
-    pub fn next(self, pause: u32, wanted: KrWanted, reply: Reply) -> KrStep
-        ensures { told_kr pause wanted result ≡ resume_kr pause wanted self reply }
-    {
+impl Machine for Kr {
+    type Context = KrCall;
+
+    type Answer = Result<u32, Error>;
+
+    ghost resume = { λ c. resume_kr c.pause c.wanted };
+
+    fn next(self, call: KrCall, reply: Reply) -> Step<Action, Kr, Result<u32, Error>> {
         match self {
-            Kr::First(s) => Kr::first(pause, wanted, s.next(pause, reply)),
-            Kr::Select => Kr::selected(pause, wanted, reply.done()),
-            Kr::Second(s) => Kr::second(pause, wanted, s.next(pause, reply)),
-            Kr::Data => Kr::data(pause, wanted, reply),
+            Kr::First(s) => Kr::first(call, s.next(call.pause, reply)),
+            Kr::Select => Kr::selected(call, done(reply)),
+            Kr::Second(s) => Kr::second(call, s.next(call.pause, reply)),
+            Kr::Data => Kr::data(call, reply),
         }
     }
+}
 
-    // Over a script, one action or one wait's.
-    fn once(
+impl Runs for Kr {
+    fn advance(
         self,
         a: Action,
-        pause: u32,
-        wanted: KrWanted,
-        h: Host,
+        call: KrCall,
+        h: &mut Host,
         replies: &[u32],
         t: &mut [u32],
-    ) -> KrRan
-        ensures { Moves replies.now (told_kr pause wanted (KrStep.Ask a self)) (tape h t.old) (told_kr pause wanted result.step) (tape result.host t.new) }
-    {
+    ) -> Step<Action, Kr, Result<u32, Error>> {
         match self {
             Kr::First(s) => {
-                let r = s.run(a, pause, h, replies, t);
-                let host = r.host;
-                let step = r.step;
-                KrRan {
-                    host,
-                    step: Kr::first(pause, wanted, step),
-                }
+                let step = run(s, a, call.pause, h, replies, t);
+                Kr::first(call, step)
             }
             Kr::Second(s) => {
-                let r = s.run(a, pause, h, replies, t);
-                let host = r.host;
-                let step = r.step;
-                KrRan {
-                    host,
-                    step: Kr::second(pause, wanted, step),
-                }
+                let step = run(s, a, call.pause, h, replies, t);
+                Kr::second(call, step)
             }
-            Kr::Select => Kr::single(Kr::Select, a, pause, wanted, h, replies, t),
-            Kr::Data => Kr::single(Kr::Data, a, pause, wanted, h, replies, t),
-        }
-    }
-
-    fn single(
-        s: Kr,
-        a: Action,
-        pause: u32,
-        wanted: KrWanted,
-        h: Host,
-        replies: &[u32],
-        t: &mut [u32],
-    ) -> KrRan
-        ensures { Moves replies.now (told_kr pause wanted (KrStep.Ask a s)) (tape h t.old) (told_kr pause wanted result.step) (tape result.host t.new) }
-    {
-        match act(h, a, replies, t) {
-            Acted::Short => KrRan {
-                host: h,
-                step: KrStep::Ask(a, s),
-            },
-            Acted::Is(host, reply) => KrRan {
-                host,
-                step: s.next(pause, wanted, reply),
-            },
-        }
-    }
-
-    // Over a script, as far as it goes.
-    pub fn run(
-        self,
-        first: Action,
-        pause: u32,
-        wanted: KrWanted,
-        host: Host,
-        replies: &[u32],
-        t: &mut [u32],
-    ) -> KrRan
-        ensures { Moves replies.now (told_kr pause wanted (KrStep.Ask first self)) (tape host t.old) (told_kr pause wanted result.step) (tape result.host t.new) }
-    {
-        let mut s = self;
-        let mut a = first;
-        let mut h = host;
-        loop {
-            let r = s.once(a, pause, wanted, h, replies, t);
-            let next = r.host;
-            let step = r.step;
-            if next.at == h.at {
-                return r;
-            }
-            h = next;
-            match step {
-                KrStep::Done(_) => {
-                    return r;
-                }
-                KrStep::Ask(b, n) => {
-                    a = b;
-                    s = n;
-                }
-            }
+            Kr::Select => single(Kr::Select, a, call, h, replies, t),
+            Kr::Data => single(Kr::Data, a, call, h, replies, t),
         }
     }
 }

@@ -4,21 +4,14 @@ ghost use Rattle.reference.specs.X552.{nvm_body};
 ghost use Rattle.hostif.specs.Post.{resume_post, told_post};
 ghost use Rattle.sideband.specs.Nvm.{nvm_block, nvm_posted, resume_nvm, told_nvm};
 
-use hardware::{Action, Reply, Word};
-use hostif::post::{Post, PostStep};
+use hardware::{Action, Error, Reply, Step, raw};
+use hostif::post::Post;
 use words::hostif::{flex_mng, nvm_address};
 
 #[derive(Clone, Copy)]
 pub enum Nvm {
     Post(Post),
     Data,
-}
-
-// Done: the word
-#[derive(Clone, Copy)]
-pub enum NvmStep {
-    Ask(Action, Nvm),
-    Done(Word),
 }
 
 impl Nvm {
@@ -44,26 +37,28 @@ impl Nvm {
         Nvm::put_four(word, block);
     }
 
-    fn after_post(step: PostStep) -> NvmStep
+    fn after_post(
+        step: Step<Action, Post, Result<u32, Error>>,
+    ) -> Step<Action, Nvm, Result<u32, Error>>
         ensures { (b : List ℕ) → told_nvm b result ≡ nvm_posted (told_post (take 4 b) step) }
     {
         match step {
-            PostStep::Ask(a, s) => NvmStep::Ask(a, Nvm::Post(s)),
-            PostStep::Done(r) => match r {
-                Word::Err(e) => NvmStep::Done(Word::Err(e)),
-                Word::Ok(_) => NvmStep::Ask(Action::Read(flex_mng(3)), Nvm::Data),
+            Step::Ask(a, s) => Step::Ask(a, Nvm::Post(s)),
+            Step::Done(r) => match r {
+                Err(e) => Step::Done(Err(e)),
+                Ok(_) => Step::Ask(Action::Read(flex_mng(3)), Nvm::Data),
             },
         }
     }
 
-    pub fn start(word: u16, block: &mut [u32; 16]) -> NvmStep
+    pub fn start(word: u16, block: &mut [u32; 16]) -> Step<Action, Nvm, Result<u32, Error>>
         ensures { told_nvm block.new result ≡ nvm_body word }
     {
         Nvm::put(word, block);
         Nvm::after_post(Post::start())
     }
 
-    fn posting(s: Post, block: &[u32], reply: Reply) -> NvmStep
+    fn posting(s: Post, block: &[u32], reply: Reply) -> Step<Action, Nvm, Result<u32, Error>>
         ensures { told_nvm block.now result ≡ nvm_posted (resume_post s (take 4 block.now) reply) }
     {
         if 4 <= block.len() {
@@ -74,14 +69,14 @@ impl Nvm {
     }
 
     // The block is the one that it began with.
-    pub fn next(self, block: &[u32], reply: Reply) -> NvmStep
+    pub fn next(self, block: &[u32], reply: Reply) -> Step<Action, Nvm, Result<u32, Error>>
         ensures { told_nvm block.now result ≡ resume_nvm self block.now reply }
     {
         match self {
             Nvm::Post(s) => Nvm::posting(s, block, reply),
-            Nvm::Data => match reply.raw() {
-                Word::Err(e) => NvmStep::Done(Word::Err(e)),
-                Word::Ok(v) => NvmStep::Done(Word::Ok(v % 0x1_0000)),
+            Nvm::Data => match raw(reply) {
+                Err(e) => Step::Done(Err(e)),
+                Ok(v) => Step::Done(Ok(v % 0x1_0000)),
             },
         }
     }

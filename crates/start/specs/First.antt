@@ -1,6 +1,6 @@
 -- What is said from an operation's first step on, with the host block as it is then
-use Rattle.std.specs.Prelude.{ℕ, List}
 use Rattle.hardware.specs.Talk.{Talk, and_then}
+use Rattle.std.specs.Prelude.{ℕ, List}
 use Rattle.hardware.specs.declared.Port.{Port}
 use Rattle.reference.specs.Operations.{Out}
 use Rattle.access.specs.Access.{told_access}

@@ -1,7 +1,6 @@
 -- What is begun as the reference's operation
 use Rattle.std.specs.Prelude.{ℕ, List}
 use Rattle.reference.specs.Operations as ops
-use Rattle.phy.specs.Advertise.{maybe_of}
 use Rattle.start.specs.declared.operation.Operation.{Operation}
 use Rattle.start.specs.declared.operation.Operation.TheVariants as operationv
 
@@ -77,7 +76,7 @@ op_of (operationv.Probe phy) ws = ops.Probe phy
 op_of operationv.Scan ws = ops.Scan
 op_of (operationv.Reset phy x557) ws = ops.Reset phy x557
 op_of (operationv.Abilities phy) ws = ops.Abilities phy
-op_of (operationv.Advertise asked) ws = ops.Advertise asked.phy asked.speeds (maybe_of asked.nbase) asked.veto
+op_of (operationv.Advertise asked) ws = ops.Advertise asked.phy asked.speeds asked.nbase asked.veto
 op_of (operationv.AnLink phy) ws = ops.AnLink phy
 op_of (operationv.KrRead address) ws = ops.KrRead address
 op_of (operationv.KrWrite address value) ws = ops.KrWrite address value

@@ -7,16 +7,16 @@ ghost use Rattle.start.specs.Operation.{op_of};
 ghost use Rattle.start.specs.declared.operation.Operation.TheVariants as operation;
 
 use crate::operation::Operation;
-use access::access::{Access, AccessStep, Job};
+use access::access::{Access, Given, Job};
 use activity::{Activity, Asked};
 use bringup::Bringup;
-use hardware::Port;
+use hardware::{Action, Port, Step};
 use hostif::token::Token;
 use kr::modify::{Change, KrModify};
 use kr::sequence::{KrPlace, Sequence};
 use operations::kr_registers::Kr;
 use operations::registers::Mdio;
-use operations::{After, AfterStep};
+use operations::{After, Ended};
 use phy::advertise::{Advertise, Advertised};
 use phy::an_link::AnLink;
 use phy::modify::{Modify, Register};
@@ -29,8 +29,8 @@ use watch::store::Watch;
 // An operation's first step: `acquire` and `release` have an access alone, of which nothing is made.
 #[derive(Clone, Copy)]
 pub enum First {
-    Access(AccessStep),
-    After(AfterStep),
+    Access(Step<Action, Access, Given>),
+    After(Step<Job, After, Ended>),
 }
 
 // How many words the first so many of a block of 16 are.
@@ -41,103 +41,109 @@ fn count(block: &[u32], words: usize) -> u32
     if words < 16 { words as u32 } else { 16 }
 }
 
-fn command(port: Port, block: &mut [u32; 16], words: usize) -> AfterStep
+fn command(port: Port, block: &mut [u32; 16], words: usize) -> Step<Job, After, Ended>
     ensures { told_after port block.new result ≡ ops.operation port (ops.Command (take words block.old)) }
 {
     let n = count(block, words);
-    AfterStep::Ask(Job::Command(words), After::Command(n))
+    Step::Ask(Job::Command(words), After::Command(n))
 }
 
-fn token(port: Port, take: bool, block: &mut [u32; 16]) -> AfterStep
+fn token(port: Port, take: bool, block: &mut [u32; 16]) -> Step<Job, After, Ended>
     ensures { told_after port block.new result ≡ ops.operation port (ops.Token take) }
 {
     let token = Token { take };
     token.put(port, block);
-    AfterStep::Ask(Job::Command(2), After::Token(take))
+    Step::Ask(Job::Command(2), After::Token(take))
 }
 
-fn phy_activity(port: Port, asked: Asked, block: &mut [u32; 16]) -> AfterStep
+fn phy_activity(port: Port, asked: Asked, block: &mut [u32; 16]) -> Step<Job, After, Ended>
     ensures { told_after port block.new result ≡ ops.operation port (op_of (operation.PhyActivity asked) block.old) }
 {
     let step = Activity::start(asked, port, block);
     After::activity(port, asked, step)
 }
 
-fn read_reg(port: Port, phy: u32, device: u32, register: u16) -> AfterStep
+fn read_reg(port: Port, phy: u32, device: u32, register: u16) -> Step<Job, After, Ended>
     ensures { (b : List ℕ) → told_after port b result ≡ ops.operation port (ops.ReadReg phy device register) }
 {
-    AfterStep::Ask(Job::ReadReg(phy, device, register), After::Word)
+    Step::Ask(Job::ReadReg(phy, device, register), After::Word)
 }
 
-fn write_reg(port: Port, phy: u32, device: u32, register: u16, value: u16) -> AfterStep
+fn write_reg(
+    port: Port,
+    phy: u32,
+    device: u32,
+    register: u16,
+    value: u16,
+) -> Step<Job, After, Ended>
     ensures { (b : List ℕ) → told_after port b result ≡ ops.operation port (ops.WriteReg phy device register value) }
 {
     let job = Job::WriteReg(phy, device, register, value);
-    AfterStep::Ask(job, After::Nothing)
+    Step::Ask(job, After::Nothing)
 }
 
-fn abilities(port: Port, phy: u32) -> AfterStep
+fn abilities(port: Port, phy: u32) -> Step<Job, After, Ended>
     ensures { (b : List ℕ) → told_after port b result ≡ ops.operation port (ops.Abilities phy) }
 {
     let job = Job::ReadReg(phy, Register::PMA, 4);
-    AfterStep::Ask(job, After::Abilities)
+    Step::Ask(job, After::Abilities)
 }
 
-fn modify(port: Port, at: Register) -> AfterStep
+fn modify(port: Port, at: Register) -> Step<Job, After, Ended>
     ensures { (b : List ℕ) → told_after port b result ≡ ops.operation port (op_of (operation.Modify at) []) }
 {
     let step = Modify::start(at, port);
     Mdio::modify(port, at, step)
 }
 
-fn probe(port: Port, phy: u32) -> AfterStep
+fn probe(port: Port, phy: u32) -> Step<Job, After, Ended>
     ensures { (b : List ℕ) → told_after port b result ≡ ops.operation port (ops.Probe phy) }
 {
     let step = Probe::start(phy, port);
     Mdio::probe(port, phy, step)
 }
 
-fn scan(port: Port) -> AfterStep
+fn scan(port: Port) -> Step<Job, After, Ended>
     ensures { (b : List ℕ) → told_after port b result ≡ ops.operation port ops.Scan }
 {
     let step = Scan::start(port);
     Mdio::scan(port, step)
 }
 
-fn reset(port: Port, phy: u32, x557: bool) -> AfterStep
+fn reset(port: Port, phy: u32, x557: bool) -> Step<Job, After, Ended>
     ensures { (b : List ℕ) → told_after port b result ≡ ops.operation port (ops.Reset phy x557) }
 {
     let step = Reset::start(phy, x557, port);
     Mdio::reset(port, phy, x557, step)
 }
 
-fn advertise(port: Port, asked: Advertised) -> AfterStep
+fn advertise(port: Port, asked: Advertised) -> Step<Job, After, Ended>
     ensures { (b : List ℕ) → told_after port b result ≡ ops.operation port (op_of (operation.Advertise asked) []) }
 {
     let step = Advertise::start(asked, port);
     Mdio::advertise(port, asked, step)
 }
 
-fn an_link(port: Port, phy: u32) -> AfterStep
+fn an_link(port: Port, phy: u32) -> Step<Job, After, Ended>
     ensures { (b : List ℕ) → told_after port b result ≡ ops.operation port (ops.AnLink phy) }
 {
     let step = AnLink::start(phy, port);
     Mdio::an_link(port, phy, step)
 }
 
-fn kr_read(port: Port, address: u32) -> AfterStep
+fn kr_read(port: Port, address: u32) -> Step<Job, After, Ended>
     ensures { (b : List ℕ) → told_after port b result ≡ ops.operation port (ops.KrRead address) }
 {
-    AfterStep::Ask(Job::KrRead(address), After::Word)
+    Step::Ask(Job::KrRead(address), After::Word)
 }
 
-fn kr_write(port: Port, address: u32, value: u32) -> AfterStep
+fn kr_write(port: Port, address: u32, value: u32) -> Step<Job, After, Ended>
     ensures { (b : List ℕ) → told_after port b result ≡ ops.operation port (ops.KrWrite address value) }
 {
-    AfterStep::Ask(Job::KrWrite(address, value), After::Nothing)
+    Step::Ask(Job::KrWrite(address, value), After::Nothing)
 }
 
-fn kr_modify(port: Port, change: Change) -> AfterStep
+fn kr_modify(port: Port, change: Change) -> Step<Job, After, Ended>
     ensures { (b : List ℕ) → told_after port b result ≡ ops.operation port (op_of (operation.KrModify change) []) }
 {
     let step = KrModify::start(change, port);
@@ -145,7 +151,7 @@ fn kr_modify(port: Port, change: Change) -> AfterStep
 }
 
 #[tactic(auto, unfolding(reference::specs::X552::restart_an))]
-fn restart_an(port: Port) -> AfterStep
+fn restart_an(port: Port) -> Step<Job, After, Ended>
     ensures { (b : List ℕ) → told_after port b result ≡ ops.operation port ops.RestartAn }
 {
     let step = Sequence::start(KrPlace::Restart, port);
@@ -153,33 +159,33 @@ fn restart_an(port: Port) -> AfterStep
 }
 
 #[tactic(auto, unfolding(reference::specs::X552::kr_autoneg))]
-fn kr_autoneg(port: Port, kr: bool, kx: bool) -> AfterStep
+fn kr_autoneg(port: Port, kr: bool, kx: bool) -> Step<Job, After, Ended>
     ensures { (b : List ℕ) → told_after port b result ≡ ops.operation port (ops.KrAutoneg kr kx) }
 {
     let step = Sequence::start(KrPlace::Advertise(kr, kx), port);
     Kr::sequence(port, step)
 }
 
-fn nvm_word(port: Port, word: u16) -> AfterStep
+fn nvm_word(port: Port, word: u16) -> Step<Job, After, Ended>
     ensures { (b : List ℕ) → told_after port b result ≡ ops.operation port (ops.NvmWord word) }
 {
-    AfterStep::Ask(Job::NvmWord(word), After::Word)
+    Step::Ask(Job::NvmWord(word), After::Word)
 }
 
-fn after_reset(port: Port) -> AfterStep
+fn after_reset(port: Port) -> Step<Job, After, Ended>
     ensures { (b : List ℕ) → told_after port b result ≡ ops.operation port ops.AfterReset }
 {
     Mdio::after_reset(port)
 }
 
-fn bringup(port: Port, veto: bool, block: &mut [u32; 16]) -> AfterStep
+fn bringup(port: Port, veto: bool, block: &mut [u32; 16]) -> Step<Job, After, Ended>
     ensures { told_after port block.new result ≡ ops.operation port (ops.Bringup veto) }
 {
     let step = Bringup::start(veto, port, block);
     After::bringup(port, veto, step)
 }
 
-fn poll(port: Port, watch: Watch) -> AfterStep
+fn poll(port: Port, watch: Watch) -> Step<Job, After, Ended>
     ensures { (b : List ℕ) → told_after port b result ≡ ops.operation port (op_of (operation.Poll watch) []) }
 {
     let step = Poll::start(watch, port);
@@ -191,8 +197,8 @@ pub fn start(what: Operation, port: Port, block: &mut [u32; 16], words: usize) -
     ensures { told_first port block.new result ≡ ops.operation port (op_of what (take words block.old)) }
 {
     match what {
-        Operation::Veto => First::After(AfterStep::Ask(Job::Read(Port::MMNGC), After::Veto)),
-        Operation::Link => First::After(AfterStep::Ask(Job::Read(Port::LINKS), After::Link)),
+        Operation::Veto => First::After(Step::Ask(Job::Read(Port::MMNGC), After::Veto)),
+        Operation::Link => First::After(Step::Ask(Job::Read(Port::LINKS), After::Link)),
         Operation::Acquire(mask) => First::Access(Access::acquire(port, mask, block)),
         Operation::Release(mask) => First::Access(Access::release(port, mask, block)),
         Operation::Command => First::After(command(port, block, words)),

@@ -4,7 +4,10 @@ use mathlib.Core.Path.{◌≡◌, ap}
 use mathlib.Core.List.{List}
 use Rattle.hardware.specs.declared.Port.{Port}
 use Rattle.started.specs.Operation.{told}
-use Rattle.started.specs.declared.operation.Place.{Place}
+use Rattle.hardware.specs.declared.Action.{Action}
+use Rattle.hardware.specs.declared.Step.{Step}
+use Rattle.operations.specs.declared.Ended.{Ended}
+use Rattle.started.specs.declared.operation.Op.{Op}
 
-pub told_at : (p : Port) (b : List ℕ) {x y : Place} → x ≡ y → told p x b ≡ told p y b
-told_at p b e = ap (λ (x : Place). told p x b) e
+pub told_at : (p : Port) (b : List ℕ) {x y : Step Action Op Ended} → x ≡ y → told p x b ≡ told p y b
+told_at p b e = ap (λ (x : Step Action Op Ended). told p x b) e

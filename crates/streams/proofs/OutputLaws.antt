@@ -2,15 +2,14 @@
 use Rattle.std.proofs.Common.{ℕ, ◌+◌, ◌≡◌, ◌≤◌, Bool, true, false, cond, List, ◌++◌, length, take, append_assoc, ap, sym, refl, ◌∙◌, arith}
 use Rattle.std.proofs.lemmas.Result.{IfOk-weaker}
 use Rattle.std.specs.Prelude.{Option, None, Some, Result, IfOk}
+use Rattle.std.specs.Option.{unwrap_or}
 use Rattle.std.specs.Io.KnownBytes.{append_known, Appends}
 use Rattle.std.proofs.Common.{leb}
 use Rattle.std.proofs.Math.Seq.{sets, length-sets}
 use Rattle.text.specs.Written.{written}
-use Rattle.text.specs.declared.Written.{Written}
-use Rattle.text.specs.declared.Written.TheVariants.{To, Full}
 use Rattle.text.proofs.PutLaws.{Fitted, fitted, written_front}
 use Rattle.lines.specs.Listing.{Added}
-use Rattle.lines.proofs.ListingLaws.{added_length, added_whole}
+use Rattle.lines.proofs.ListingLaws.{added_length, added_whole, never_full}
 use Rattle.streams.specs.Output.{printed, Prints, PrintsAll}
 
 -- nothing was written, and bytes were put behind those that wait
@@ -24,7 +23,7 @@ sent None new xs ys a = tt
 sent (Some k) None xs ys a = elim a [ ]
 sent (Some k) (Some l) xs ys a = rw a refl
 
-module _ (out bytes : List ℕ) (n end : ℕ) (left : List ℕ) (e : written out n bytes ≡ (To end, left)) where
+module _ (out bytes : List ℕ) (n end : ℕ) (left : List ℕ) (e : written out n bytes ≡ (Some end, left)) where
   room : end ≤ length left
   room = let f : Fitted out n bytes end left = fitted out n bytes end left e in omega (arith, ap length f.stored, length-sets out n bytes, f.within)
 
@@ -32,19 +31,19 @@ module _ (out bytes : List ℕ) (n end : ℕ) (left : List ℕ) (e : written out
   put_behind known = record { within = room; text = kept known (take n out) (take end left) bytes (written_front out n bytes end left e) }
 
 -- where they did not fit, the buffer is as it was
-full_kept : (out bytes : List ℕ) (n : ℕ) (left : List ℕ) → written out n bytes ≡ (Full, left) → left ≡ out
+full_kept : (out bytes : List ℕ) (n : ℕ) (left : List ℕ) → written out n bytes ≡ (None, left) → left ≡ out
 unfolding written
 full_kept out bytes n left e = go (leb (n + length bytes) (length out)) e
   where
-    go : (b : Bool) → ◌≡◌ {A = Written × List ℕ} (cond b (To (n + length bytes), sets out n bytes) (Full, out)) (Full, left) → left ≡ out
+    go : (b : Bool) → ◌≡◌ {A = Option ℕ × List ℕ} (cond b (Some (n + length bytes), sets out n bytes) (None, out)) (None, left) → left ≡ out
     go true e =
-        let full : To (n + length bytes) ≡ Full = ap (λ (p : Written × List ℕ). p.0) e in
+        let full : Some (n + length bytes) ≡ None = ap (λ (p : Option ℕ × List ℕ). p.0) e in
         let z : ⊥ = cc in absurd z
-    go false e = sym (ap (λ (p : Written × List ℕ). p.1) e)
+    go false e = sym (ap (λ (p : Option ℕ × List ℕ). p.1) e)
 
 -- bytes that did not fit behind those that wait: these were written, and the bytes are put in the buffer alone, or do not fit in it at all
-module _ (out bytes mid : List ℕ) (n : ℕ) (full : written out n bytes ≡ (Full, mid)) where
-  pub put_alone : (end : ℕ) (left : List ℕ) → written mid 0 bytes ≡ (To end, left) → (old new : Option (List ℕ))
+module _ (out bytes mid : List ℕ) (n : ℕ) (full : written out n bytes ≡ (None, mid)) where
+  pub put_alone : (end : ℕ) (left : List ℕ) → written mid 0 bytes ≡ (Some end, left) → (old new : Option (List ℕ))
       → (n ≤ length mid → Appends old new (take n mid)) → n ≤ length out → Prints old out n bytes new left end
   put_alone end left e old new a h =
       let same : mid ≡ out = full_kept out bytes n mid full in
@@ -52,8 +51,13 @@ module _ (out bytes mid : List ℕ) (n : ℕ) (full : written out n bytes ≡ (F
       let written : Appends old new (take n out) = rw same at a h in
       record { within = room mid bytes 0 end left e; text = rw front (sent old new (take n out) bytes written) }
 
-  pub fits_alone : length bytes ≤ length out → 0 + length bytes ≤ length mid
+  fits_alone : length bytes ≤ length out → 0 + length bytes ≤ length mid
   fits_alone h = rw (full_kept out bytes n mid full) (omega arith)
+
+  pub alone : (r : Option ℕ) {end : ℕ} {left : List ℕ} → written mid 0 bytes ≡ (r, left) → end ≡ unwrap_or r 0 → length bytes ≤ length out
+      → written mid 0 bytes ≡ (Some end, left)
+  alone (Some m) e h fits = rw h e
+  alone None e h fits = never_full mid 0 bytes (fits_alone fits) e refl
 
 -- on from what was printed
 appends_on : (old mid new : Option (List ℕ)) (xs ys : List ℕ) → Appends old mid xs → Appends mid new ys → Appends old new (xs ++ ys)

@@ -8,44 +8,29 @@ use crate::output::print;
 use crate::part::part;
 use lines::buffer::Seen;
 use lines::listing::action_line;
-use lines::reply::{ReplyLine, reply_line};
+use lines::reply::reply_line;
 use std::io;
 use std::io::Write;
 
-// The input from a place of the buffer on.
-fn from_place(input: Input, from: usize) -> Input {
-    Input {
-        from,
-        to: input.to,
-        ended: input.ended,
-        cases: input.cases,
-    }
-}
-
 // The words of the next replies, and where the input goes on behind each: as many as there are whole lines that can be read.
 pub fn read_ahead(buf: &[u8], input: Input, words: &mut [u32], behind: &mut [usize]) -> usize {
-    let mut count: usize = 0;
     let mut from = input.from;
-    while count < 64 {
-        if behind.len() <= count {
+    for count in 0..64 {
+        if behind.len() <= count || words.len() < 2 * count + 2 {
             return count;
         }
-        if words.len() < 2 * count + 2 {
-            return count;
-        }
-        let Seen::Line { start, end, next } = look(buf, from_place(input, from)) else {
+        let Seen::Line { start, end, next } = look(buf, Input { from, ..input }) else {
             return count;
         };
-        let ReplyLine::Is { kind, value } = reply_line(part(buf, start, end)) else {
+        let Some((kind, value)) = reply_line(part(buf, start, end)) else {
             return count;
         };
         words[2 * count] = kind;
         words[2 * count + 1] = value;
         behind[count] = next;
         from = next;
-        count += 1;
     }
-    count
+    64
 }
 
 // An action's line.
@@ -75,16 +60,11 @@ pub fn print_lines<W: Write>(
     ensures { PrintsAll result (W.contents sink.old) out.old n (lines_text (take (3 * line_count at t.now) t.now)) (W.contents sink.new) out.new }
 {
     let mut end = n;
-    let mut i: usize = 0;
-    while i < 128 {
-        if at <= 3 * i {
-            return Ok(end);
-        }
-        if t.len() < 3 * i + 3 {
+    for i in 0..128 {
+        if at <= 3 * i || t.len() < 3 * i + 3 {
             return Ok(end);
         }
         end = print_action(t[3 * i], t[3 * i + 1], t[3 * i + 2], sink, out, end)?;
-        i += 1;
     }
     Ok(end)
 }
@@ -92,19 +72,19 @@ pub fn print_lines<W: Write>(
 // Behind the replies that were used.
 pub fn behind_used(input: Input, behind: &[usize], used: usize) -> Input {
     let lines = used / 2;
-    if lines == 0 {
+    if lines == 0 || lines > behind.len() {
         return input;
     }
-    if lines > behind.len() {
-        return input;
+    Input {
+        from: behind[lines - 1],
+        ..input
     }
-    from_place(input, behind[lines - 1])
 }
 
 // The words of so many replies; none where there are not so many.
 pub fn first(words: &[u32], count: usize) -> &[u32] {
     if count > words.len() / 2 {
-        return &words[0..0];
+        return &[];
     }
-    &words[0..2 * count]
+    &words[..2 * count]
 }

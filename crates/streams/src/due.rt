@@ -1,44 +1,48 @@
 // The reply to a pending action, read when it is due.
 ghost use Rattle.std.specs.Prelude.{◌≡◌};
-ghost use Rattle.streams.specs.Due.{due_of};
+ghost use Rattle.streams.specs.Due.{number, due_of};
 
-use crate::input::{Input, Next, fetch};
+use crate::input::{Fetched, Input, Next, fetch};
 use crate::part::part;
 use drive::uses_of;
 use hardware::Action;
-use lines::reply::{ReplyLine, reply_line};
+use lines::reply::reply_line;
 use std::io::Read;
 
-// Where a line that cannot be read stands in document 01's table, and where a reply that is missing does.
-pub const BAD_LINE: u32 = 25;
-
-const NO_REPLY: u32 = 26;
-
-// What the pending action is answered: nothing for a wait, a reply's two words, or that the listing stops with a number.
+// Why a listing stops at a reply that is due: the line cannot be read, or there is none.
 #[derive(Clone, Copy)]
-pub enum Due {
-    Nothing,
-    Reply(u32, u32),
-    Stop(u32),
+pub enum Fault {
+    BadLine,
+    NoReply,
 }
 
+impl Fault {
+    // The number of the listing's last line.
+    pub fn number(self) -> u32
+        ensures { number self ≡ result }
+    {
+        match self {
+            Fault::BadLine => 25,
+            Fault::NoReply => 26,
+        }
+    }
+}
+
+// What a pending action is answered: nothing for a wait, a reply's two words for a read or a write.
 #[derive(Clone, Copy)]
 pub struct Answered {
-    pub due: Due,
+    pub due: Result<Option<(u32, u32)>, Fault>,
     pub input: Input,
 }
 
 // What was fetched for a read or a write.
-fn read_reply(buf: &[u8], next: Next) -> Due
+fn read_reply(buf: &[u8], next: Next) -> Result<(u32, u32), Fault>
     ensures { due_of buf.now next ≡ result }
 {
     match next {
-        Next::Ended => Due::Stop(NO_REPLY),
-        Next::Long => Due::Stop(BAD_LINE),
-        Next::Line(start, end) => match reply_line(part(buf, start, end)) {
-            ReplyLine::Is { kind, value } => Due::Reply(kind, value),
-            ReplyLine::Bad => Due::Stop(BAD_LINE),
-        },
+        Next::Ended => Err(Fault::NoReply),
+        Next::Long => Err(Fault::BadLine),
+        Next::Line(start, end) => reply_line(part(buf, start, end)).ok_or(Fault::BadLine),
     }
 }
 
@@ -46,15 +50,13 @@ fn read_reply(buf: &[u8], next: Next) -> Due
 pub fn answer<R: Read>(a: Action, source: &mut R, buf: &mut [u8], input: Input) -> Answered {
     if uses_of(a) == 0 {
         return Answered {
-            due: Due::Nothing,
+            due: Ok(None),
             input,
         };
     }
-    let f = fetch(source, buf, input);
-    let next = f.next;
-    let rest = f.input;
+    let Fetched { next, input } = fetch(source, buf, input);
     Answered {
-        due: read_reply(buf, next),
-        input: rest,
+        due: read_reply(buf, next).map(|pair| Some(pair)),
+        input,
     }
 }

@@ -4,7 +4,8 @@ ghost use Rattle.lines.specs.Listing.{end_text, stop_text, left_text};
 ghost use Rattle.streams.specs.Output.{PrintsAll};
 
 use crate::output::print;
-use answers::Answer;
+use answers::Value;
+use hardware::Error;
 use lines::listing::{end_line, left_line, stop_line};
 use std::io;
 use std::io::Write;
@@ -27,7 +28,7 @@ pub fn stop<W: Write>(
 
 // The last line of a conversation that has ended.
 pub fn last<W: Write>(
-    answer: Answer,
+    answer: Result<Value, Error>,
     block: [u32; 16],
     actions: u64,
     micros: u64,

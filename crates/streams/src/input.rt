@@ -46,12 +46,7 @@ impl Input {
     pub fn within(self, cases: bool) -> Input
         ensures { input self.from self.to self.ended cases ≡ result }
     {
-        Input {
-            from: self.from,
-            to: self.to,
-            ended: self.ended,
-            cases,
-        }
+        Input { cases, ..self }
     }
 }
 
@@ -70,7 +65,7 @@ fn fill<R: Read>(source: &mut R, buf: &mut [u8], input: Input) -> Input {
             from: 0,
             to,
             ended: true,
-            cases: input.cases,
+            ..input
         };
     }
     let n = read_to(source, &mut buf[to..]);
@@ -78,17 +73,14 @@ fn fill<R: Read>(source: &mut R, buf: &mut [u8], input: Input) -> Input {
         from: 0,
         to: to + n,
         ended: n == 0,
-        cases: input.cases,
+        ..input
     }
 }
 
 fn read_to<R: Read>(source: &mut R, part: &mut [u8]) -> usize
     ensures { result ≤ length part.old }
 {
-    match source.read(part) {
-        Ok(n) => n,
-        Err(_) => 0,
-    }
+    source.read(part).unwrap_or(0)
 }
 
 // What is there of the next line.
@@ -106,43 +98,33 @@ pub fn look(buf: &[u8], input: Input) -> Seen
 fn is_full(buf: &[u8], input: Input) -> bool
     ensures { is_full buf.now input ≡ result }
 {
-    if input.from > 0 {
-        false
-    } else {
-        input.to >= buf.len()
-    }
+    input.from == 0 && input.to >= buf.len()
 }
 
 // A line that was seen is used up, unless it begins a case that ends the input.
 fn found(buf: &[u8], input: Input, start: usize, end: usize, next: usize) -> Fetched
     ensures { found_in buf.now input start end next ≡ result }
 {
-    if input.cases {
-        if is_case(part(buf, start, end)) {
-            return Fetched {
-                next: Next::Ended,
-                input,
-            };
-        }
+    if input.cases && is_case(part(buf, start, end)) {
+        return Fetched {
+            next: Next::Ended,
+            input,
+        };
     }
-    let rest = Input {
-        from: next,
-        to: input.to,
-        ended: input.ended,
-        cases: input.cases,
-    };
     Fetched {
         next: Next::Line(start, end),
-        input: rest,
+        input: Input {
+            from: next,
+            ..input
+        },
     }
 }
 
-// The next line. A loop has to end, so it counts its turns down: a read that adds nothing ends the input, so it takes no
-// more turns than the buffer has bytes, and two.
+// The next line. A loop has to end, so its turns are counted: a read that adds nothing ends the input, so it takes no more
+// turns than the buffer has bytes, and two.
 pub fn fetch<R: Read>(source: &mut R, buf: &mut [u8], input: Input) -> Fetched {
     let mut now = input;
-    let mut turns: u32 = 70000;
-    while turns > 0 {
+    for _ in 0..70000 {
         match look(buf, now) {
             Seen::Line { start, end, next } => {
                 return found(buf, now, start, end, next);
@@ -163,7 +145,6 @@ pub fn fetch<R: Read>(source: &mut R, buf: &mut [u8], input: Input) -> Fetched {
                 now = fill(source, buf, now);
             }
         }
-        turns -= 1;
     }
     Fetched {
         next: Next::Long,

@@ -5,7 +5,6 @@ ghost use Rattle.streams.specs.Output.{Prints};
 
 use std::io;
 use std::io::Write;
-use text::Written;
 
 // The first n bytes of the buffer are written.
 pub fn flush<W: Write>(sink: &mut W, out: &[u8], n: usize) -> io::Result<()>
@@ -31,12 +30,9 @@ pub fn print<W: Write>(
     if len > line.len() {
         return Ok(n);
     }
-    if let Written::To(end) = text::put(out, n, &line[..len]) {
+    if let Some(end) = text::put(out, n, &line[..len]) {
         return Ok(end);
     }
     flush(sink, out, n)?;
-    Ok(match text::put(out, 0, &line[..len]) {
-        Written::To(end) => end,
-        Written::Full => 0,
-    })
+    Ok(text::put(out, 0, &line[..len]).unwrap_or(0))
 }

@@ -9,13 +9,7 @@ use crate::input::Next;
 pub fn part(buf: &[u8], start: usize, end: usize) -> &[u8]
     ensures { part_of buf.now start end ≡ result.now }
 {
-    if start > end {
-        return &buf[0..0];
-    }
-    if end > buf.len() {
-        return &buf[0..0];
-    }
-    &buf[start..end]
+    buf.get(start..end).unwrap_or(&[])
 }
 
 // The line that was fetched; an empty one where there is none.
@@ -24,7 +18,6 @@ pub fn line_of(buf: &[u8], next: Next) -> &[u8]
 {
     match next {
         Next::Line(start, end) => part(buf, start, end),
-        Next::Ended => &buf[0..0],
-        Next::Long => &buf[0..0],
+        _ => &[],
     }
 }

@@ -1,240 +1,164 @@
 // `release_bits` of sync.rs, suspended at an action.
-ghost use Rattle.drive.specs.Moves.{tape, Moves};
 ghost use Rattle.std.specs.Prelude.{◌≡◌, false};
-ghost use Rattle.hardware.specs.Told.{unit_of};
 ghost use Rattle.reference.specs.Sync.{release_bits_with};
 ghost use Rattle.sync.specs.Lock.{told_clear, told_lock, told_unlock};
 ghost use Rattle.sync.specs.Bits.{told_mux, resume_release, told_release, release_after_mux, release_after_lock, release_after_clear, release_after_unlock, release_settle};
 
-use crate::lock::{Clear, ClearStep, Lock, LockStep, Unlock, UnlockStep};
-use crate::set_mux::{SetMux, SetMuxStep};
-use drive::{Acted, Host, act};
-use hardware::{Action, Regs, Reply, Unit};
+use crate::lock::{Clear, Lock, Unlock};
+use crate::set_mux::SetMux;
+use drive::Host;
+use drive::machine::{Machine, Runs, run, single};
+use hardware::{Action, Error, Regs, Reply, Step};
 
-// `sw` are the bits to clear, `micros` the wait after them.
+// What release_bits was given: the register pair, the bits to clear, and the wait after them.
+#[derive(Clone, Copy)]
+pub struct Giving {
+    pub regs: Regs,
+    pub sw: u32,
+    pub micros: u32,
+}
+
 #[derive(Clone, Copy)]
 pub enum ReleaseBits {
     Switching(SetMux),
     Locking(Lock),
     Clearing(Clear),
     // with what clearing the bits gave
-    Unlocking(Unit, Unlock),
+    Unlocking(Result<(), Error>, Unlock),
     Waiting,
 }
 
-#[derive(Clone, Copy)]
-pub enum ReleaseBitsStep {
-    Ask(Action, ReleaseBits),
-    Done(Unit),
-}
-
-#[derive(Clone, Copy)]
-pub struct ReleaseBitsRan {
-    pub host: Host,
-    pub step: ReleaseBitsStep,
-}
-
 impl ReleaseBits {
-    fn after_mux(regs: Regs, sw: u32, micros: u32, step: SetMuxStep) -> ReleaseBitsStep
-        ensures { told_release regs sw micros result ≡ release_after_mux regs sw micros (told_mux false step) }
+    fn after_mux(
+        giving: Giving,
+        step: Step<Action, SetMux, Result<(), Error>>,
+    ) -> Step<Action, ReleaseBits, Result<(), Error>>
+        ensures { told_release giving result ≡ release_after_mux giving (told_mux false step) }
     {
         match step {
-            SetMuxStep::Ask(a, s) => ReleaseBitsStep::Ask(a, ReleaseBits::Switching(s)),
-            SetMuxStep::Done(r) => match r {
-                Unit::Ok => ReleaseBits::after_lock(regs, sw, micros, Lock::start(regs)),
-                Unit::Err(e) => ReleaseBitsStep::Done(Unit::Err(e)),
+            Step::Ask(a, s) => Step::Ask(a, ReleaseBits::Switching(s)),
+            Step::Done(r) => match r {
+                Ok(()) => ReleaseBits::after_lock(giving, Lock::start(giving.regs)),
+                Err(e) => Step::Done(Err(e)),
             },
         }
     }
 
-    fn after_lock(regs: Regs, sw: u32, micros: u32, step: LockStep) -> ReleaseBitsStep
-        ensures { told_release regs sw micros result ≡ release_after_lock regs sw micros (told_lock regs step) }
+    fn after_lock(
+        giving: Giving,
+        step: Step<Action, Lock, Result<(), Error>>,
+    ) -> Step<Action, ReleaseBits, Result<(), Error>>
+        ensures { told_release giving result ≡ release_after_lock giving (told_lock giving.regs step) }
     {
         match step {
-            LockStep::Ask(a, s) => ReleaseBitsStep::Ask(a, ReleaseBits::Locking(s)),
-            LockStep::Done(r) => match r {
-                Unit::Ok => ReleaseBits::after_clear(regs, sw, micros, Clear::start(regs.sync, sw)),
-                Unit::Err(e) => ReleaseBitsStep::Done(Unit::Err(e)),
+            Step::Ask(a, s) => Step::Ask(a, ReleaseBits::Locking(s)),
+            Step::Done(r) => match r {
+                Ok(()) => ReleaseBits::after_clear(
+                    giving,
+                    Clear::start(giving.regs.sync, giving.sw),
+                ),
+                Err(e) => Step::Done(Err(e)),
             },
         }
     }
 
-    fn after_clear(regs: Regs, sw: u32, micros: u32, step: ClearStep) -> ReleaseBitsStep
-        ensures { told_release regs sw micros result ≡ release_after_clear regs micros (told_clear regs.sync sw step) }
+    fn after_clear(
+        giving: Giving,
+        step: Step<Action, Clear, Result<(), Error>>,
+    ) -> Step<Action, ReleaseBits, Result<(), Error>>
+        ensures { told_release giving result ≡ release_after_clear giving.regs giving.micros (told_clear giving.regs.sync giving.sw step) }
     {
         match step {
-            ClearStep::Ask(a, s) => ReleaseBitsStep::Ask(a, ReleaseBits::Clearing(s)),
-            ClearStep::Done(cleared) => ReleaseBits::after_unlock(
-                regs,
-                sw,
-                micros,
+            Step::Ask(a, s) => Step::Ask(a, ReleaseBits::Clearing(s)),
+            Step::Done(cleared) => ReleaseBits::after_unlock(
+                giving,
                 cleared,
-                Unlock::start(regs),
+                Unlock::start(giving.regs),
             ),
         }
     }
 
     fn after_unlock(
-        regs: Regs,
-        sw: u32,
-        micros: u32,
-        cleared: Unit,
-        step: UnlockStep,
-    ) -> ReleaseBitsStep
-        ensures { told_release regs sw micros result ≡ release_after_unlock micros (unit_of cleared) (told_unlock regs step) }
+        giving: Giving,
+        cleared: Result<(), Error>,
+        step: Step<Action, Unlock, Result<(), Error>>,
+    ) -> Step<Action, ReleaseBits, Result<(), Error>>
+        ensures { told_release giving result ≡ release_after_unlock giving.micros cleared (told_unlock giving.regs step) }
     {
         match step {
-            UnlockStep::Ask(a, s) => ReleaseBitsStep::Ask(a, ReleaseBits::Unlocking(cleared, s)),
-            UnlockStep::Done(r) => match r {
-                Unit::Ok => ReleaseBits::settle(regs, sw, micros, cleared),
-                Unit::Err(e) => ReleaseBitsStep::Done(Unit::Err(e)),
+            Step::Ask(a, s) => Step::Ask(a, ReleaseBits::Unlocking(cleared, s)),
+            Step::Done(r) => match r {
+                Ok(()) => ReleaseBits::settle(giving, cleared),
+                Err(e) => Step::Done(Err(e)),
             },
         }
     }
 
-    fn settle(regs: Regs, sw: u32, micros: u32, cleared: Unit) -> ReleaseBitsStep
-        ensures { told_release regs sw micros result ≡ release_settle micros (unit_of cleared) }
+    fn settle(
+        giving: Giving,
+        cleared: Result<(), Error>,
+    ) -> Step<Action, ReleaseBits, Result<(), Error>>
+        ensures { told_release giving result ≡ release_settle giving.micros cleared }
     {
         match cleared {
-            Unit::Err(e) => ReleaseBitsStep::Done(Unit::Err(e)),
-            Unit::Ok => ReleaseBitsStep::Ask(Action::Wait(micros), ReleaseBits::Waiting),
+            Err(e) => Step::Done(Err(e)),
+            Ok(()) => Step::Ask(Action::Wait(giving.micros), ReleaseBits::Waiting),
         }
     }
 
-    pub fn start(regs: Regs, sw: u32, micros: u32, mux: bool) -> ReleaseBitsStep
-        ensures { told_release regs sw micros result ≡ release_bits_with regs sw micros mux }
+    pub fn start(giving: Giving, mux: bool) -> Step<Action, ReleaseBits, Result<(), Error>>
+        ensures { told_release giving result ≡ release_bits_with giving.regs giving.sw giving.micros mux }
     {
         if mux {
-            ReleaseBits::after_mux(regs, sw, micros, SetMux::start(false))
+            ReleaseBits::after_mux(giving, SetMux::start(false))
         } else {
-            ReleaseBits::after_lock(regs, sw, micros, Lock::start(regs))
+            ReleaseBits::after_lock(giving, Lock::start(giving.regs))
         }
     }
+}
 
-    pub fn next(self, regs: Regs, sw: u32, micros: u32, reply: Reply) -> ReleaseBitsStep
-        ensures { told_release regs sw micros result ≡ resume_release regs sw micros self reply }
-    {
+impl Machine for ReleaseBits {
+    type Context = Giving;
+
+    type Answer = Result<(), Error>;
+
+    ghost resume = { resume_release };
+
+    fn next(self, giving: Giving, reply: Reply) -> Step<Action, ReleaseBits, Result<(), Error>> {
         match self {
-            ReleaseBits::Switching(s) => ReleaseBits::after_mux(
-                regs,
-                sw,
-                micros,
-                s.next(false, reply),
-            ),
-            ReleaseBits::Locking(s) => ReleaseBits::after_lock(
-                regs,
-                sw,
-                micros,
-                s.next(regs, reply),
-            ),
+            ReleaseBits::Switching(s) => ReleaseBits::after_mux(giving, s.next(false, reply)),
+            ReleaseBits::Locking(s) => ReleaseBits::after_lock(giving, s.next(giving.regs, reply)),
             ReleaseBits::Clearing(s) => ReleaseBits::after_clear(
-                regs,
-                sw,
-                micros,
-                s.next(regs.sync, sw, reply),
+                giving,
+                s.next(giving.regs.sync, giving.sw, reply),
             ),
             ReleaseBits::Unlocking(cleared, s) => ReleaseBits::after_unlock(
-                regs,
-                sw,
-                micros,
+                giving,
                 cleared,
-                s.next(regs, reply),
+                s.next(giving.regs, reply),
             ),
-            ReleaseBits::Waiting => ReleaseBitsStep::Done(Unit::Ok),
+            ReleaseBits::Waiting => Step::Done(Ok(())),
         }
     }
+}
 
-    // Over a script: one action, or as much as a machine inside takes.
-    fn once(
+impl Runs for ReleaseBits {
+    fn advance(
         self,
         a: Action,
-        regs: Regs,
-        sw: u32,
-        micros: u32,
-        h: Host,
+        giving: Giving,
+        h: &mut Host,
         replies: &[u32],
         t: &mut [u32],
-    ) -> ReleaseBitsRan
-        ensures { Moves replies.now (told_release regs sw micros (ReleaseBitsStep.Ask a self)) (tape h t.old) (told_release regs sw micros result.step) (tape result.host t.new) }
-    {
+    ) -> Step<Action, ReleaseBits, Result<(), Error>> {
         if let ReleaseBits::Locking(s) = self {
-            let r = s.run(a, regs, h, replies, t);
-            let host = r.host;
-            let step = r.step;
-            return ReleaseBitsRan {
-                host,
-                step: ReleaseBits::after_lock(regs, sw, micros, step),
-            };
+            let step = run(s, a, giving.regs, h, replies, t);
+            return ReleaseBits::after_lock(giving, step);
         }
         if let ReleaseBits::Unlocking(cleared, s) = self {
-            let r = s.run(a, regs, h, replies, t);
-            let host = r.host;
-            let step = r.step;
-            return ReleaseBitsRan {
-                host,
-                step: ReleaseBits::after_unlock(regs, sw, micros, cleared, step),
-            };
+            let step = run(s, a, giving.regs, h, replies, t);
+            return ReleaseBits::after_unlock(giving, cleared, step);
         }
-        ReleaseBits::single(self, a, regs, sw, micros, h, replies, t)
-    }
-
-    fn single(
-        s: ReleaseBits,
-        a: Action,
-        regs: Regs,
-        sw: u32,
-        micros: u32,
-        h: Host,
-        replies: &[u32],
-        t: &mut [u32],
-    ) -> ReleaseBitsRan
-        ensures { Moves replies.now (told_release regs sw micros (ReleaseBitsStep.Ask a s)) (tape h t.old) (told_release regs sw micros result.step) (tape result.host t.new) }
-    {
-        match act(h, a, replies, t) {
-            Acted::Short => ReleaseBitsRan {
-                host: h,
-                step: ReleaseBitsStep::Ask(a, s),
-            },
-            Acted::Is(host, reply) => ReleaseBitsRan {
-                host,
-                step: s.next(regs, sw, micros, reply),
-            },
-        }
-    }
-
-    // Over a script, as far as it goes.
-    pub fn run(
-        self,
-        first: Action,
-        regs: Regs,
-        sw: u32,
-        micros: u32,
-        host: Host,
-        replies: &[u32],
-        t: &mut [u32],
-    ) -> ReleaseBitsRan
-        ensures { Moves replies.now (told_release regs sw micros (ReleaseBitsStep.Ask first self)) (tape host t.old) (told_release regs sw micros result.step) (tape result.host t.new) }
-    {
-        let mut s = self;
-        let mut a = first;
-        let mut h = host;
-        loop {
-            let r = s.once(a, regs, sw, micros, h, replies, t);
-            let next = r.host;
-            let step = r.step;
-            if next.at == h.at {
-                return r;
-            }
-            h = next;
-            match step {
-                ReleaseBitsStep::Done(_) => {
-                    return r;
-                }
-                ReleaseBitsStep::Ask(b, n) => {
-                    a = b;
-                    s = n;
-                }
-            }
-        }
+        single(self, a, giving, h, replies, t)
     }
 }

@@ -1,10 +1,9 @@
 // `set_mux` of sync.rs, suspended at an action.
 ghost use Rattle.std.specs.Prelude.{◌≡◌};
-ghost use Rattle.hardware.specs.Told.{word_of};
 ghost use Rattle.reference.specs.Sync.{set_mux};
 ghost use Rattle.sync.specs.Bits.{resume_mux, told_mux, mux_read};
 
-use hardware::{Action, Port, Reply, Unit, Word};
+use hardware::{Action, Error, Port, Reply, Step, checked, done};
 
 #[derive(Clone, Copy)]
 pub enum SetMux {
@@ -13,44 +12,38 @@ pub enum SetMux {
     Flushing,
 }
 
-#[derive(Clone, Copy)]
-pub enum SetMuxStep {
-    Ask(Action, SetMux),
-    Done(Unit),
-}
-
 impl SetMux {
-    pub fn start(on: bool) -> SetMuxStep
+    pub fn start(on: bool) -> Step<Action, SetMux, Result<(), Error>>
         ensures { told_mux on result ≡ set_mux on }
     {
-        SetMuxStep::Ask(Action::Read(Port::ESDP), SetMux::Reading)
+        Step::Ask(Action::Read(Port::ESDP), SetMux::Reading)
     }
 
-    fn read(on: bool, word: Word) -> SetMuxStep
-        ensures { told_mux on result ≡ mux_read on (word_of word) }
+    fn read(on: bool, word: Result<u32, Error>) -> Step<Action, SetMux, Result<(), Error>>
+        ensures { told_mux on result ≡ mux_read on word }
     {
         match word {
-            Word::Err(e) => SetMuxStep::Done(Unit::Err(e)),
-            Word::Ok(esdp) => {
+            Err(e) => Step::Done(Err(e)),
+            Ok(esdp) => {
                 if on {
-                    SetMuxStep::Ask(Action::Write(Port::ESDP, esdp | 2), SetMux::Writing)
+                    Step::Ask(Action::Write(Port::ESDP, esdp | 2), SetMux::Writing)
                 } else {
-                    SetMuxStep::Ask(Action::Write(Port::ESDP, esdp & !2), SetMux::Writing)
+                    Step::Ask(Action::Write(Port::ESDP, esdp & !2), SetMux::Writing)
                 }
             }
         }
     }
 
-    pub fn next(self, on: bool, reply: Reply) -> SetMuxStep
+    pub fn next(self, on: bool, reply: Reply) -> Step<Action, SetMux, Result<(), Error>>
         ensures { told_mux on result ≡ resume_mux on self reply }
     {
         match self {
-            SetMux::Reading => SetMux::read(on, reply.checked()),
-            SetMux::Writing => match reply.done() {
-                Unit::Err(e) => SetMuxStep::Done(Unit::Err(e)),
-                Unit::Ok => SetMuxStep::Ask(Action::Read(Port::STATUS), SetMux::Flushing),
+            SetMux::Reading => SetMux::read(on, checked(reply)),
+            SetMux::Writing => match done(reply) {
+                Err(e) => Step::Done(Err(e)),
+                Ok(()) => Step::Ask(Action::Read(Port::STATUS), SetMux::Flushing),
             },
-            SetMux::Flushing => SetMuxStep::Done(reply.done()),
+            SetMux::Flushing => Step::Done(done(reply)),
         }
     }
 }

@@ -1,5 +1,4 @@
 // acquire_bits or release_bits of a port, with the register pair and the mux that it began with: no step looks them up again.
-ghost use Rattle.drive.specs.Moves.{tape, Moves};
 ghost use Rattle.std.specs.Prelude.{◌≡◌};
 ghost use Rattle.hardware.specs.Talk.{ask};
 ghost use Rattle.hardware.specs.Regs.{regs};
@@ -7,25 +6,20 @@ ghost use Rattle.hardware.specs.declared.Action.TheVariants.{Read};
 ghost use Rattle.words.specs.Semaphore.{bits};
 ghost use Rattle.reference.specs.Sync.{mux, settle, acquire_bits, release_bits};
 ghost use Rattle.sync.specs.Bits.{told_acquire, told_release};
-ghost use Rattle.sync.specs.Sync.{resume_sync, told_sync};
+ghost use Rattle.sync.specs.Sync.{taken, given, resume_sync, told_sync};
 
-use crate::acquire_bits::{AcquireBits, AcquireBitsStep};
+use crate::acquire_bits::{AcquireBits, Taking};
 use crate::lock::{Lock, Smbi};
-use crate::release_bits::{ReleaseBits, ReleaseBitsStep};
+use crate::release_bits::{Giving, ReleaseBits};
 use drive::Host;
-use hardware::{Action, Family, Port, Regs, Reply, Unit};
+use drive::machine::{Machine, Runs, run};
+use hardware::{Action, Error, Family, Port, Regs, Reply, Step};
 use words::semaphore::Bits;
 
 #[derive(Clone, Copy)]
 pub enum Sync {
     Take(Regs, bool, AcquireBits),
     Give(Regs, ReleaseBits),
-}
-
-#[derive(Clone, Copy)]
-pub enum SyncStep {
-    Ask(Action, Sync),
-    Done(Unit),
 }
 
 // mux: the X552's port 1 reaches the I2C segment through a mux.
@@ -54,30 +48,57 @@ fn settle(mask: u32) -> u32
     if mask & 0x406 == 0 { 2000 } else { 10 }
 }
 
-#[derive(Clone, Copy)]
-pub struct SyncRan {
-    pub host: Host,
-    pub step: SyncStep,
-}
-
 impl Sync {
-    #[tactic(auto, unfolding(reference::specs::Mdio::mask))]
-    fn taking(regs: Regs, on: bool, mask: u32, step: AcquireBitsStep) -> SyncStep
-        ensures { told_sync mask result ≡ told_acquire regs (bits mask) on step }
+    fn taking(
+        regs: Regs,
+        mux: bool,
+        mask: u32,
+        step: Step<Action, AcquireBits, Result<(), Error>>,
+    ) -> Step<Action, Sync, Result<(), Error>>
+        ensures { told_sync mask result ≡ told_acquire (taken regs mask mux) step }
     {
         match step {
-            AcquireBitsStep::Ask(a, s) => SyncStep::Ask(a, Sync::Take(regs, on, s)),
-            AcquireBitsStep::Done(r) => SyncStep::Done(r),
+            Step::Ask(a, s) => Step::Ask(a, Sync::Take(regs, mux, s)),
+            Step::Done(r) => Step::Done(r),
+        }
+    }
+
+    // What acquire_bits is given for a mask.
+    #[tactic(auto, unfolding(crate::specs::Sync::taken))]
+    fn taken(regs: Regs, mask: u32, mux: bool) -> Taking
+        ensures { taken regs mask mux ≡ result }
+    {
+        Taking {
+            regs,
+            want: Bits::from(mask),
+            mux,
+        }
+    }
+
+    // What release_bits is given for one.
+    #[tactic(auto, unfolding(crate::specs::Sync::given))]
+    fn given(regs: Regs, mask: u32) -> Giving
+        ensures { given regs mask ≡ result }
+    {
+        let want = Bits::from(mask);
+        Giving {
+            regs,
+            sw: want.sw,
+            micros: settle(mask),
         }
     }
 
     #[tactic(auto, unfolding(reference::specs::Mdio::mask, reference::specs::Sync::settle))]
-    fn giving(regs: Regs, mask: u32, step: ReleaseBitsStep) -> SyncStep
-        ensures { told_sync mask result ≡ told_release regs (bits mask).sw (settle mask) step }
+    fn giving(
+        regs: Regs,
+        mask: u32,
+        step: Step<Action, ReleaseBits, Result<(), Error>>,
+    ) -> Step<Action, Sync, Result<(), Error>>
+        ensures { told_sync mask result ≡ told_release (given regs mask) step }
     {
         match step {
-            ReleaseBitsStep::Ask(a, s) => SyncStep::Ask(a, Sync::Give(regs, s)),
-            ReleaseBitsStep::Done(r) => SyncStep::Done(r),
+            Step::Ask(a, s) => Step::Ask(a, Sync::Give(regs, s)),
+            Step::Done(r) => Step::Done(r),
         }
     }
 
@@ -89,75 +110,69 @@ impl Sync {
         let family = port.family;
         let lock = Lock::Smbi(Smbi::Reading(1999));
         Sync::Take(
-            Regs::of(family),
+            Regs::from(family),
             mux(port, mask),
             AcquireBits::Locking(999, lock),
         )
     }
 
     // acquire_bits
-    pub fn take(port: Port, mask: u32) -> SyncStep
+    pub fn take(port: Port, mask: u32) -> Step<Action, Sync, Result<(), Error>>
         ensures { told_sync mask result ≡ acquire_bits port mask }
     {
         let family = port.family;
-        let regs = Regs::of(family);
-        SyncStep::Ask(Action::Read(regs.swsm), Sync::first(port, mask))
+        let regs = Regs::from(family);
+        Step::Ask(Action::Read(regs.swsm), Sync::first(port, mask))
     }
 
     // release_bits
     #[tactic(auto, unfolding(reference::specs::Mdio::mask, reference::specs::Sync::release_bits))]
-    pub fn give(port: Port, mask: u32) -> SyncStep
+    pub fn give(port: Port, mask: u32) -> Step<Action, Sync, Result<(), Error>>
         ensures { told_sync mask result ≡ release_bits port mask }
     {
         let family = port.family;
-        let regs = Regs::of(family);
-        let want = Bits::of(mask);
-        Sync::giving(
-            regs,
-            mask,
-            ReleaseBits::start(regs, want.sw, settle(mask), mux(port, mask)),
-        )
+        let regs = Regs::from(family);
+        let giving = Sync::given(regs, mask);
+        Sync::giving(regs, mask, ReleaseBits::start(giving, mux(port, mask)))
     }
+}
 
-    #[tactic(auto, unfolding(reference::specs::Mdio::mask))]
-    pub fn next(self, mask: u32, reply: Reply) -> SyncStep
-        ensures { told_sync mask result ≡ resume_sync mask self reply }
-    {
-        let want = Bits::of(mask);
+impl Machine for Sync {
+    // the mask
+    type Context = u32;
+
+    type Answer = Result<(), Error>;
+
+    ghost resume = { resume_sync };
+
+    fn next(self, mask: u32, reply: Reply) -> Step<Action, Sync, Result<(), Error>> {
         match self {
-            Sync::Take(regs, on, s) => Sync::taking(regs, on, mask, s.next(regs, want, on, reply)),
-            Sync::Give(regs, s) => Sync::giving(
-                regs,
-                mask,
-                s.next(regs, want.sw, settle(mask), reply),
-            ),
+            Sync::Take(regs, mux, s) => {
+                let step = s.next(Sync::taken(regs, mask, mux), reply);
+                Sync::taking(regs, mux, mask, step)
+            }
+            Sync::Give(regs, s) => Sync::giving(regs, mask, s.next(Sync::given(regs, mask), reply)),
         }
     }
+}
 
-    // Over a script, as far as it goes.
-    #[tactic(auto, using(drive::proofs::Laws::told_as, drive::proofs::Laws::from_as))]
-    pub fn run(self, a: Action, mask: u32, h: Host, replies: &[u32], t: &mut [u32]) -> SyncRan
-        ensures { Moves replies.now (told_sync mask (SyncStep.Ask a self)) (tape h t.old) (told_sync mask result.step) (tape result.host t.new) }
-    {
-        let want = Bits::of(mask);
+impl Runs for Sync {
+    fn advance(
+        self,
+        a: Action,
+        mask: u32,
+        h: &mut Host,
+        replies: &[u32],
+        t: &mut [u32],
+    ) -> Step<Action, Sync, Result<(), Error>> {
         match self {
-            Sync::Take(regs, on, s) => {
-                let r = s.run(a, regs, want, on, h, replies, t);
-                let host = r.host;
-                let step = r.step;
-                SyncRan {
-                    host,
-                    step: Sync::taking(regs, on, mask, step),
-                }
+            Sync::Take(regs, mux, s) => {
+                let step = run(s, a, Sync::taken(regs, mask, mux), h, replies, t);
+                Sync::taking(regs, mux, mask, step)
             }
             Sync::Give(regs, s) => {
-                let r = s.run(a, regs, want.sw, settle(mask), h, replies, t);
-                let host = r.host;
-                let step = r.step;
-                SyncRan {
-                    host,
-                    step: Sync::giving(regs, mask, step),
-                }
+                let step = run(s, a, Sync::given(regs, mask), h, replies, t);
+                Sync::giving(regs, mask, step)
             }
         }
     }

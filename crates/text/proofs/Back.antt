@@ -9,47 +9,47 @@ use native.Mathlib.Nat.{pow-suc, mod-lt, zero-lt-suc}
 use borrow.Author.Tests.{lt-ltb, ltb-true, ltb-false}
 use lib.Dec.{ltb}
 use lib.ListN.{length, get_or, length-append, get_or-append}
-use Rattle.text.specs.Hex.{digit, value, or_nothing, hex_word}
+use Rattle.text.specs.Hex.{digit, value, hex_word}
 use Rattle.text.specs.Digits.{glyph, last_hex, hex_digits, decimal, decimal_digits}
-use Rattle.text.specs.declared.Number.{Number}
-use Rattle.text.specs.declared.Number.TheVariants.{Is, Nothing}
+use Rattle.std.specs.Option.{option_and_then}
+use Rattle.std.proofs.Common.{Option, Some, None}
 use Rattle.text.proofs.HexLaws.{digit_figure, digit_small}
 
-digit_glyph : (d : ℕ) → d < 16 → digit (glyph d) ≡ Is d
+digit_glyph : (d : ℕ) → d < 16 → digit (glyph d) ≡ Some d
 digit_glyph d h = go (ltb d 10) refl
   where
-    go : (b : Bool) → ltb d 10 ≡ b → digit (glyph d) ≡ Is d
+    go : (b : Bool) → ltb d 10 ≡ b → digit (glyph d) ≡ Some d
     go true e =
         let k : d < 10 = ltb-true d 10 e in
-        rw e (digit_figure (48 + d) (omega arith) (omega arith) ∙ ap Is (omega arith))
+        rw e (digit_figure (48 + d) (omega arith) (omega arith) ∙ ap Some (omega arith))
     go false e =
         let k : 10 ≤ d = ltb-false d 10 e in
-        rw e (digit_small (87 + d) (omega arith) (omega arith) ∙ ap Is (omega arith))
+        rw e (digit_small (87 + d) (omega arith) (omega arith) ∙ ap Some (omega arith))
 
-value_append : (xs ys : List ℕ) (a : ℕ) → value a (xs ++ ys) ≡ or_nothing (λ v. value v ys) (value a xs)
+value_append : (xs ys : List ℕ) (a : ℕ) → value a (xs ++ ys) ≡ option_and_then (λ v. value v ys) (value a xs)
 unfolding value
 value_append [] ys a = refl
 value_append (x ∷ xs) ys a = go (digit x) (λ d. value_append xs ys (16 * a + d))
   where
-    go : (n : Number) → ((d : ℕ) → value (16 * a + d) (xs ++ ys) ≡ or_nothing (λ v. value v ys) (value (16 * a + d) xs))
-        → or_nothing (λ d. value (16 * a + d) (xs ++ ys)) n ≡ or_nothing (λ v. value v ys) (or_nothing (λ d. value (16 * a + d) xs) n)
-    go (Is d) h = h d
-    go Nothing h = refl
+    go : (n : Option ℕ) → ((d : ℕ) → value (16 * a + d) (xs ++ ys) ≡ option_and_then (λ v. value v ys) (value (16 * a + d) xs))
+        → option_and_then (λ d. value (16 * a + d) (xs ++ ys)) n ≡ option_and_then (λ v. value v ys) (option_and_then (λ d. value (16 * a + d) xs) n)
+    go (Some d) h = h d
+    go None h = refl
 
-read_back : (k v : ℕ) → v < 16 ^ k → value 0 (last_hex k v) ≡ Is v
+read_back : (k v : ℕ) → v < 16 ^ k → value 0 (last_hex k v) ≡ Some v
 unfolding last_hex value
-read_back zero v h = ap Is (omega arith)
+read_back zero v h = ap Some (omega arith)
 read_back (suc k) v h =
     let high : v / 16 < 16 ^ k = omega (arith, pow-suc 16 k) in
     value_append (last_hex k (v / 16)) (glyph (v % 16) ∷ []) 0
-    ∙ rw (read_back k (v / 16) high) (rw (digit_glyph (v % 16) (mod-lt v (zero-lt-suc 15))) (ap Is (omega arith)))
+    ∙ rw (read_back k (v / 16) high) (rw (digit_glyph (v % 16) (mod-lt v (zero-lt-suc 15))) (ap Some (omega arith)))
 
 pub length_last_hex : (k v : ℕ) → length (last_hex k v) ≡ k
 unfolding last_hex
 length_last_hex zero v = refl
 length_last_hex (suc k) v = simp (length-append, length_last_hex k (v / 16), add-one)
 
-pub hex_back : (v : ℕ) → v < 2 ^ 32 → hex_word 8 8 (hex_digits v) ≡ Is v
+pub hex_back : (v : ℕ) → v < 2 ^ 32 → hex_word 8 8 (hex_digits v) ≡ Some v
 unfolding hex_word
 hex_back v h = rw (length_last_hex 8 v) (read_back 8 v h)
 

@@ -7,11 +7,10 @@ use Rattle.text.specs.Lines.{newline, line_end, bare}
 use Rattle.text.specs.Words.{pieces, full, words}
 use Rattle.text.specs.Hex.{digit, value, hex_word}
 use Rattle.text.specs.Digits.{last_hex, hex_digits, decimal, decimal_digits}
-use Rattle.text.specs.declared.Number.TheVariants.{Is, Nothing}
-use Rattle.text.specs.declared.Found.TheVariants as at
+use Rattle.std.proofs.Common.{Some, None}
 
 -- "a\nb\n" from 2 on
-second_line : line_end (97 ∷ 10 ∷ 98 ∷ 10 ∷ []) 2 ≡ at.At 3
+second_line : line_end (97 ∷ 10 ∷ 98 ∷ 10 ∷ []) 2 ≡ Some 3
 unfolding newline
 second_line = refl
 
@@ -26,17 +25,17 @@ unfolding words pieces full
 two_words = refl
 
 -- "15aD"
-either_case : hex_word 4 4 (49 ∷ 53 ∷ 97 ∷ 68 ∷ []) ≡ Is 0x15ad
+either_case : hex_word 4 4 (49 ∷ 53 ∷ 97 ∷ 68 ∷ []) ≡ Some 0x15ad
 unfolding hex_word value digit
 either_case = refl
 
 -- "1g"
-no_digit : hex_word 1 8 (49 ∷ 103 ∷ []) ≡ Nothing
+no_digit : hex_word 1 8 (49 ∷ 103 ∷ []) ≡ None
 unfolding hex_word value digit
 no_digit = refl
 
 -- nine digits, though twelve are allowed
-nine : hex_word 1 12 (48 ∷ 48 ∷ 48 ∷ 48 ∷ 48 ∷ 48 ∷ 48 ∷ 48 ∷ 48 ∷ []) ≡ Nothing
+nine : hex_word 1 12 (48 ∷ 48 ∷ 48 ∷ 48 ∷ 48 ∷ 48 ∷ 48 ∷ 48 ∷ 48 ∷ []) ≡ None
 unfolding hex_word
 nine = refl
 

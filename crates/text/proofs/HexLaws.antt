@@ -6,23 +6,26 @@ use mathlib.Core.List.{List}
 use native.Mathlib.Omega.{arith}
 use native.Mathlib.Numerals.{add-one}
 use native.Mathlib.Nat.{pow-suc, pow-le-pow_right, zero-lt-suc}
-use borrow.Author.Tests.{le-leb, lt-leb}
+use borrow.Author.Tests.{le-leb, lt-leb, leb-true}
 use lib.Dec.{leb}
 use lib.ListN.{length, drop, get_or, drop_of_length-le}
 use lib.Seq.{drop-cons}
-use Rattle.text.specs.Hex.{between, digit, value}
-use Rattle.text.specs.declared.Number.TheVariants.{Is, Nothing}
+use Rattle.text.specs.Hex.{between, digit, value, Small}
+use Rattle.std.proofs.Common.{Option, Some, None, cond, ◌∙◌, inl, inr}
+use Rattle.std.specs.Char.{digit_value, NotDecimalDigitIn, IsDigitOf}
+use Rattle.std.specs.Option.{SomeIff, MatchOption}
+use Rattle.std.proofs.lemmas.Bool.Decides.{nat_tests}
 
 module _ (word : List ℕ) (i v : ℕ) where
-  pub value_end : length word ≤ i → value v (drop i word) ≡ Is v
+  pub value_end : length word ≤ i → value v (drop i word) ≡ Some v
   unfolding value
   value_end h = rw (drop_of_length-le word h)
 
-  pub value_stop : i < length word → digit (get_or word i 0) ≡ Nothing → value v (drop i word) ≡ Nothing
+  pub value_stop : i < length word → digit (get_or word i 0) ≡ None → value v (drop i word) ≡ None
   unfolding value
   value_stop h e = rw (drop-cons word i 0 h) (simp e)
 
-  pub value_next : (d : ℕ) → i < length word → digit (get_or word i 0) ≡ Is d → value v (drop i word) ≡ value (16 * v + d) (drop (i + 1) word)
+  pub value_next : (d : ℕ) → i < length word → digit (get_or word i 0) ≡ Some d → value v (drop i word) ≡ value (16 * v + d) (drop (i + 1) word)
   unfolding value
   value_next d h e = rw (drop-cons word i 0 h) (simp (e, add-one))
 
@@ -51,32 +54,51 @@ module _ (low high b : ℕ) where
       go true = refl
       go false = refl
 
+pub in_between : (low high b : ℕ) → between low high b ≡ true → (low ≤ b) × (b ≤ high)
+in_between low high b e = go (leb low b) (leb b high) refl refl e
+  where
+    go : (p q : Bool) → leb low b ≡ p → leb b high ≡ q → (p && q) ≡ true → (low ≤ b) × (b ≤ high)
+    go true true f g e = (leb-true low b f, leb-true b high g)
+    go true false f g e = cc
+    go false q f g e = cc
+
 module _ (b : ℕ) where
-  pub digit_figure : 48 ≤ b → b ≤ 57 → digit b ≡ Is (b - 48)
+  pub digit_figure : 48 ≤ b → b ≤ 57 → digit b ≡ Some (b - 48)
   unfolding digit
   digit_figure h k = rw (in_range 48 57 b h k)
 
-  pub digit_small : 97 ≤ b → b ≤ 102 → digit b ≡ Is (b - 97 + 10)
+  pub digit_small : 97 ≤ b → b ≤ 102 → digit b ≡ Some (b - 97 + 10)
   unfolding digit
-  digit_small h k = rw (above_range 48 57 b (omega arith), in_range 97 102 b h k) (ap Is (omega arith))
+  digit_small h k = rw (above_range 48 57 b (omega arith), in_range 97 102 b h k) (ap Some (omega arith))
 
-  pub digit_capital : 65 ≤ b → b ≤ 70 → digit b ≡ Is (b - 65 + 10)
+  pub digit_capital : 65 ≤ b → b ≤ 70 → digit b ≡ Some (b - 65 + 10)
   unfolding digit
-  digit_capital h k = rw (above_range 48 57 b (omega arith), below_range 97 102 b (omega arith), in_range 65 70 b h k) (ap Is (omega arith))
+  digit_capital h k = rw (above_range 48 57 b (omega arith), below_range 97 102 b (omega arith), in_range 65 70 b h k) (ap Some (omega arith))
 
-  -- before, between and behind the three ranges
-  pub no_digit_1 : b < 48 → digit b ≡ Nothing
-  unfolding digit
-  no_digit_1 h = rw (below_range 48 57 b h, below_range 97 102 b (omega arith), below_range 65 70 b (omega arith))
+-- what `to_digit(16)` reads
+value_figure : (b : ℕ) → 48 ≤ b → b ≤ 57 → digit_value b ≡ b - 48
+value_figure b h k = grind (arith, nat_tests)
 
-  pub no_digit_2 : 57 < b → b < 65 → digit b ≡ Nothing
-  unfolding digit
-  no_digit_2 h k = rw (above_range 48 57 b h, below_range 97 102 b (omega arith), below_range 65 70 b k)
+value_small : (b : ℕ) → 97 ≤ b → b ≤ 122 → digit_value b ≡ b - 87
+value_small b h k = grind (arith, nat_tests)
 
-  pub no_digit_3 : 70 < b → b < 97 → digit b ≡ Nothing
-  unfolding digit
-  no_digit_3 h k = rw (above_range 48 57 b (omega arith), below_range 97 102 b k, above_range 65 70 b h)
+value_capital : (b : ℕ) → 65 ≤ b → b ≤ 90 → digit_value b ≡ b - 55
+value_capital b h k = grind (arith, nat_tests)
 
-  pub no_digit_4 : 102 < b → digit b ≡ Nothing
-  unfolding digit
-  no_digit_4 h = rw (above_range 48 57 b (omega arith), above_range 97 102 b h, above_range 65 70 b (omega arith))
+no_digit : (b : ℕ) (p q r : Bool) → (digit_value b < 16 → ⊥) → between 48 57 b ≡ p → between 97 102 b ≡ q → between 65 70 b ≡ r
+    → cond p (Some (b - 48)) (cond q (Some (b - 87)) (cond r (Some (b - 55)) None)) ≡ None
+no_digit b true q r n e f g = let w = in_between 48 57 b e in absurd (n (omega (arith, value_figure b w.0 w.1)))
+no_digit b false true r n e f g = let w = in_between 97 102 b f in absurd (n (omega (arith, value_small b w.0 (omega arith))))
+no_digit b false false true n e f g = let w = in_between 65 70 b g in absurd (n (omega (arith, value_capital b w.0 (omega arith))))
+no_digit b false false false n e f g = refl
+
+pub digit_reads : (b : ℕ) (r : Option ℕ) → SomeIff r (digit_value b < 16) (digit_value b) → MatchOption r (NotDecimalDigitIn 16 b) (IsDigitOf b) → digit b ≡ r
+unfolding digit
+digit_reads b None h _ = no_digit b (between 48 57 b) (between 97 102 b) (between 65 70 b) h refl refl refl
+digit_reads b (Some d) h (inl w) = digit_figure b w.0.0 w.0.1 ∙ ap Some (omega arith)
+digit_reads b (Some d) h (inr (inl w)) = digit_capital b w.0.0 (omega arith) ∙ ap Some (omega arith)
+digit_reads b (Some d) h (inr (inr w)) = digit_small b w.0.0 (omega arith) ∙ ap Some (omega arith)
+
+pub small_reads : (b : ℕ) (r : Option ℕ) → SomeIff r (digit_value b < 16) (digit_value b) → Small r
+small_reads b None h = tt
+small_reads b (Some d) h = omega arith

@@ -1,40 +1,42 @@
--- A turn of writing bytes, and where they fit or not
+-- Where bytes fit or not, and what writing them leaves
 use Prim.Native.Nat.{ℕ, suc, ◌+◌, ◌≤◌, ◌<◌}
 use mathlib.Core.Path.{◌≡◌, refl, ap, ap₂, sym, ◌∙◌}
 use mathlib.Core.Bool.{Bool, true, false, cond}
-use mathlib.Core.List.{List, [], ◌∷◌, ◌++◌}
+use mathlib.Core.List.{List, [], ◌∷◌, ◌++◌, append_assoc}
 use native.Mathlib.Omega.{arith}
-use native.Mathlib.Numerals.{add-one}
 use native.Mathlib.Nat.{add-zero}
 use borrow.Author.Tests.{le-leb, lt-leb, leb-true}
 use lib.Dec.{leb}
-use lib.ListN.{length, take, drop, get_or, set, drop_of_length-le, length-append}
-use lib.Seq.{sets, drop-cons, length-sets, sets-eq, length-take-le, take_at}
+use lib.ListN.{length, take, drop, set, length-append}
+use lib.Seq.{sets, length-sets, sets-eq, length-take-le, take_at}
 use Rattle.text.specs.Written.{written}
-use Rattle.text.specs.declared.Written.{Written}
-use Rattle.text.specs.declared.Written.TheVariants.{To, Full}
-
-module _ (out bytes : List ℕ) (at i : ℕ) where
-  next_place : suc (at + i) ≡ at + (i + 1)
-  next_place = omega arith
-
-  pub sets_next : i < length bytes → sets out (at + i) (drop i bytes) ≡ sets (set out (at + i) (get_or bytes i 0)) (at + (i + 1)) (drop (i + 1) bytes)
-  sets_next h = rw (drop-cons bytes i 0 h, ← next_place, add-one i)
-
-  pub sets_end : length bytes ≤ i → sets out (at + i) (drop i bytes) ≡ out
-  sets_end h = rw (drop_of_length-le bytes h)
+use Rattle.std.proofs.Common.{Option, Some, None}
+use borrow.Rule.Slice.PartMut.{put_mid}
+use lib.Seq.{drop-drop}
 
 module _ (out : List ℕ) (at : ℕ) (bytes : List ℕ) where
-  pub written_full : length out < at + length bytes → written out at bytes ≡ (Full, out)
+  pub written_full : length out < at + length bytes → written out at bytes ≡ (None, out)
   unfolding written
   written_full h = rw (lt-leb (at + length bytes) (length out) h)
 
-  pub written_fits : at + length bytes ≤ length out → written out at bytes ≡ (To (at + length bytes), sets out at bytes)
+  pub written_fits : at + length bytes ≤ length out → written out at bytes ≡ (Some (at + length bytes), sets out at bytes)
   unfolding written
   written_fits h = rw (le-leb (at + length bytes) (length out) h)
 
+  -- after `out[at..at + k].copy_from_slice(bytes)`, which leaves ys in that part
+  pub written_copy : (k : ℕ) (ys : List ℕ) → at + length bytes ≤ length out → k ≡ length bytes → ys ≡ bytes
+      → written out at bytes ≡ (Some (at + length bytes), put_mid at k out ys)
+  written_copy k ys h e f =
+      written_fits h
+      ∙ ap (λ (l : List ℕ). (Some (at + length bytes), l))
+      (
+      sets-eq bytes out at h
+      ∙ append_assoc (take at out) bytes (drop (at + length bytes) out)
+      ∙ rw (e, f) (ap (λ (l : List ℕ). take at out ++ (bytes ++ l)) (sym (drop-drop (length bytes) at out)))
+      )
+
 -- what a caller learns of a success, and of two in a row
-sets_append : (xs ys l : List ℕ) (i : ℕ) → sets (sets l i xs) (i + length xs) ys ≡ sets l i (xs ++ ys)
+pub sets_append : (xs ys l : List ℕ) (i : ℕ) → sets (sets l i xs) (i + length xs) ys ≡ sets l i (xs ++ ys)
 sets_append [] ys l i = ap (λ (n : ℕ). sets l n ys) (add-zero i)
 sets_append (x ∷ xs) ys l i =
     ap (λ (n : ℕ). sets (sets (set l i x) (suc i) xs) n ys) (let e : i + suc (length xs) ≡ suc i + length xs = omega arith in e)
@@ -45,25 +47,23 @@ pub record Fitted (out : List ℕ) (at : ℕ) (bytes : List ℕ) (end : ℕ) (ne
   pub within : end ≤ length out
   pub stored : new ≡ sets out at bytes
 
-pub fitted : (out : List ℕ) (at : ℕ) (bytes : List ℕ) (end : ℕ) (new : List ℕ) → written out at bytes ≡ (To end, new) → Fitted out at bytes end new
+pub fitted : (out : List ℕ) (at : ℕ) (bytes : List ℕ) (end : ℕ) (new : List ℕ) → written out at bytes ≡ (Some end, new) → Fitted out at bytes end new
 unfolding written
 fitted out at bytes end new e = go (leb (at + length bytes) (length out)) refl e
   where
     go : (b : Bool) → leb (at + length bytes) (length out) ≡ b
-        → ◌≡◌ {A = Written × List ℕ} (cond b (To (at + length bytes), sets out at bytes) (Full, out)) (To end, new)
+        → ◌≡◌ {A = Option ℕ × List ℕ} (cond b (Some (at + length bytes), sets out at bytes) (None, out)) (Some end, new)
         → Fitted out at bytes end new
     go true t e =
-        let to : To (at + length bytes) ≡ To end = ap (λ (p : Written × List ℕ). p.0) e in
+        let to : Some (at + length bytes) ≡ Some end = ap (λ (p : Option ℕ × List ℕ). p.0) e in
         let place : end ≡ at + length bytes = cc in
-        record { place = place; within = omega (arith, leb-true (at + length bytes) (length out) t); stored = sym (ap (λ (p : Written × List ℕ). p.1) e) }
+        record { place = place; within = omega (arith, leb-true (at + length bytes) (length out) t); stored = sym (ap (λ (p : Option ℕ × List ℕ). p.1) e) }
     go false t e =
-        let full : Full ≡ To end = ap (λ (p : Written × List ℕ). p.0) e in
-        let z : ◌≡◌ {A = ℕ} 0 1 = cc in
-        let w : ⊥ = omega arith in absurd w
+        let full : None ≡ Some end = ap (λ (p : Option ℕ × List ℕ). p.0) e in cc
 
 -- writing on from where the last bytes ended writes them all
 pub written_on : (out : List ℕ) (at : ℕ) (xs ys : List ℕ) (end : ℕ) (mid : List ℕ) (last : ℕ) (new : List ℕ)
-    → written out at xs ≡ (To end, mid) → written mid end ys ≡ (To last, new) → written out at (xs ++ ys) ≡ (To last, new)
+    → written out at xs ≡ (Some end, mid) → written mid end ys ≡ (Some last, new) → written out at (xs ++ ys) ≡ (Some last, new)
 written_on out at xs ys end mid last new e f =
     let a = fitted out at xs end mid e in
     let b = fitted mid end ys last new f in
@@ -71,11 +71,11 @@ written_on out at xs ys end mid last new e f =
     let place : at + length (xs ++ ys) ≡ last = omega (arith, length-append xs ys) in
     let stored : sets out at (xs ++ ys) ≡ new =
     sym (b.stored ∙ ap₂ (λ (m : List ℕ) (n : ℕ). sets m n ys) a.stored a.place ∙ sets_append xs ys out at) in
-    written_fits out at (xs ++ ys) (omega arith) ∙ ap₂ (λ (n : ℕ) (l : List ℕ). (To n, l)) place stored
+    written_fits out at (xs ++ ys) (omega arith) ∙ ap₂ (λ (n : ℕ) (l : List ℕ). (Some n, l)) place stored
 
 -- what stands before the place is kept, and the bytes follow it
 pub written_front : (out : List ℕ) (at : ℕ) (bytes : List ℕ) (end : ℕ) (new : List ℕ)
-    → written out at bytes ≡ (To end, new) → take end new ≡ take at out ++ bytes
+    → written out at bytes ≡ (Some end, new) → take end new ≡ take at out ++ bytes
 written_front out at bytes end new e =
     let a = fitted out at bytes end new e in
     let fits : at + length bytes ≤ length out = omega arith in

@@ -1,40 +1,42 @@
 -- `same` means equality; and a turn of the comparison
 use Prim.Native.Nat.{ℕ, ◌+◌, ◌≤◌, ◌<◌}
-use mathlib.Core.Path.{◌≡◌, refl, ap, ap₂, sym}
+use mathlib.Core.Path.{◌≡◌, refl, ap}
 use mathlib.Core.Logic.{◌↔◌}
-use mathlib.Core.Bool.{Bool, true, false, ◌&&◌, true≢false}
+use mathlib.Core.Bool.{Bool, true, false, ◌&&◌}
 use mathlib.Core.List.{List, [], ◌∷◌}
 use native.Mathlib.Numerals.{add-one}
-use borrow.Author.Tests.{eq-eqb, ne_eqb, eqb-true}
+use borrow.Author.Tests.{eq-eqb, ne_eqb}
 use lib.Dec.{eqb}
 use lib.ListN.{length, drop, get_or, drop_of_length-le}
 use lib.Seq.{drop-cons}
+use Rattle.std.specs.Cmp.Lexicographic.{pointwise}
+use Rattle.std.proofs.lemmas.Slice.Eq.{IsBytesEq, compares_Decides}
 use Rattle.text.specs.Same.{same}
 
-both : (a b : Bool) → (a && b) ≡ true → (a ≡ true) × (b ≡ true)
-both true b e = (refl, e)
-both false b e = absurd (true≢false (sym e))
-
 -- equal where `same` says so, and only there
-pub same_equal : (xs ys : List ℕ) → same xs ys ≡ true → xs ≡ ys
+head_by_head : IsBytesEq same
 unfolding same
-same_equal [] [] e = refl
-same_equal [] (y ∷ ys) e = absurd (true≢false (sym e))
-same_equal (x ∷ xs) [] e = absurd (true≢false (sym e))
-same_equal (x ∷ xs) (y ∷ ys) e =
-    let p = both (eqb x y) (same xs ys) e in
-    ap₂ (λ (z : ℕ) (zs : List ℕ). z ∷ zs) (eqb-true x y p.0) (same_equal xs ys p.1)
+head_by_head = record { empty = refl; shorter = λ y ys. refl; longer = λ x xs. refl; heads = λ x y xs ys. refl }
 
-pub same_self : (xs : List ℕ) → same xs xs ≡ true
-unfolding same
-same_self [] = refl
-same_self (x ∷ xs) = simp (eq-eqb x x refl) (same_self xs)
+pub same_equal : (xs ys : List ℕ) → same xs ys ≡ true → xs ≡ ys
+same_equal xs ys = (compares_Decides same head_by_head xs ys).0
 
 pub equal_same : (xs ys : List ℕ) → xs ≡ ys → same xs ys ≡ true
-equal_same xs ys e = rw e (same_self ys)
+equal_same xs ys = (compares_Decides same head_by_head xs ys).1
+
+pub same_self : (xs : List ℕ) → same xs xs ≡ true
+same_self xs = equal_same xs xs refl
 
 pub same_means : (xs ys : List ℕ) → (same xs ys ≡ true) ↔ (xs ≡ ys)
 same_means xs ys = (same_equal xs ys, equal_same xs ys)
+
+-- what `==` of slices answers
+pub same_pointwise : (xs ys : List ℕ) → same xs ys ≡ pointwise eqb xs ys
+unfolding same
+same_pointwise [] [] = refl
+same_pointwise [] (y ∷ ys) = refl
+same_pointwise (x ∷ xs) [] = refl
+same_pointwise (x ∷ xs) (y ∷ ys) = ap (λ (b : Bool). eqb x y && b) (same_pointwise xs ys)
 
 -- lists of different lengths
 pub same_lengths : (xs ys : List ℕ) → (length xs ≡ length ys → ⊥) → same xs ys ≡ false

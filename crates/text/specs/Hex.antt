@@ -1,41 +1,36 @@
 -- Hexadecimal words
-use Rattle.std.specs.Prelude.{ℕ, ◌+◌, ◌-◌, ◌*◌, ◌<◌, Bool, ◌&&◌, cond, List, [], ◌∷◌, leb, length}
+use Rattle.std.specs.Prelude.{ℕ, ◌+◌, ◌-◌, ◌*◌, ◌<◌, Bool, ◌&&◌, cond, List, [], ◌∷◌, leb, length, Option, Some, None}
+use Rattle.std.specs.Option.{option_and_then}
 use Rattle.std.proofs.Math.Seq.{slice}
 use Rattle.text.specs.Parts.{has_part}
-use Rattle.text.specs.declared.Number.{Number}
-use Rattle.text.specs.declared.Number.TheVariants.{Is, Nothing}
 
 abbrev pub between : ℕ → ℕ → ℕ → Bool
 between low high b = leb low b && leb b high
 
 -- `0` to `9`, `a` to `f`, `A` to `F`
-unfoldable pub digit : ℕ → Number
+unfoldable pub digit : ℕ → Option ℕ
 digit b =
-    cond (between 48 57 b) (Is (b - 48))
-    (cond (between 97 102 b) (Is (b - 87))
-    (cond (between 65 70 b) (Is (b - 55))
-    Nothing))
-
-abbrev pub or_nothing : (ℕ → Number) → Number → Number
-or_nothing f (Is d) = f d
-or_nothing f Nothing = Nothing
+    cond (between 48 57 b) (Some (b - 48))
+    (cond (between 97 102 b) (Some (b - 87))
+    (cond (between 65 70 b) (Some (b - 55))
+    None))
 
 -- the value of digits after some that are worth v
-unfoldable pub value : ℕ → List ℕ → Number
-value v [] = Is v
-value v (b ∷ bs) = or_nothing (λ d. value (16 * v + d) bs) (digit b)
+unfoldable pub value : ℕ → List ℕ → Option ℕ
+value v [] = Some v
+value v (b ∷ bs) = option_and_then (λ d. value (16 * v + d) bs) (digit b)
 
 -- a word of so many digits, eight at most
-unfoldable pub hex_word : ℕ → ℕ → List ℕ → Number
+unfoldable pub hex_word : ℕ → ℕ → List ℕ → Option ℕ
 hex_word fewest most word =
-    cond (between fewest most (length word) && leb (length word) 8) (value 0 word) Nothing
+    cond (between fewest most (length word) && leb (length word) 8) (value 0 word) None
 
 -- the same of a part of a line; where there is no such part, it is nothing
-unfoldable pub hex_part : List ℕ → ℕ → ℕ → ℕ → ℕ → Number
+unfoldable pub hex_part : List ℕ → ℕ → ℕ → ℕ → ℕ → Option ℕ
 hex_part line start end fewest most =
-    cond (has_part start end line) (hex_word fewest most (slice start end line)) Nothing
+    cond (has_part start end line) (hex_word fewest most (slice start end line)) None
 
 -- a digit is worth less than 16
-abbrev pub Small : Number → Type 0
-Small (Is d) = d < 16
-Small Nothing = Unit {0}
+abbrev pub Small : Option ℕ → Type 0
+Small (Some d) = d < 16
+Small None = Unit {0}

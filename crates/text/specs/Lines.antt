@@ -1,15 +1,13 @@
 -- Where a line ends, and what of it is read
-use Rattle.std.specs.Prelude.{ℕ, ◌+◌, ◌≤◌, ◌<◌, cond, List, [], ◌∷◌, ◌++◌, eqb, length, drop}
-use Rattle.text.specs.declared.Found.{Found}
-use Rattle.text.specs.declared.Found.TheVariants.{At, Nothing}
+use Rattle.std.specs.Prelude.{ℕ, ◌+◌, ◌≤◌, ◌<◌, cond, List, [], ◌∷◌, ◌++◌, eqb, length, drop, Option, Some, None}
 
 -- the place of the first newline, where the first byte of the list has the place `at`
-unfoldable pub newline : ℕ → List ℕ → Found
-newline at [] = Nothing
-newline at (b ∷ bs) = cond (eqb b 10) (At at) (newline (at + 1) bs)
+unfoldable pub newline : ℕ → List ℕ → Option ℕ
+newline at [] = None
+newline at (b ∷ bs) = cond (eqb b 10) (Some at) (newline (at + 1) bs)
 
 -- the first newline of a text at or after a place
-abbrev pub line_end : List ℕ → ℕ → Found
+abbrev pub line_end : List ℕ → ℕ → Option ℕ
 line_end text from = newline from (drop from text)
 
 -- what stands behind the last newline is a line unless it is empty
@@ -32,6 +30,6 @@ bare (b ∷ []) = cond (eqb b 13) [] (b ∷ [])
 bare (b ∷ c ∷ bs) = b ∷ bare (c ∷ bs)
 
 -- a newline that was found lies inside the text, at or after the place
-abbrev pub Ahead : ℕ → List ℕ → Found → Type 0
-Ahead from text (At e) = (from ≤ e) × (e < length text)
-Ahead from text Nothing = Unit {0}
+abbrev pub Ahead : ℕ → List ℕ → Option ℕ → Type 0
+Ahead from text (Some e) = (from ≤ e) × (e < length text)
+Ahead from text None = Unit {0}

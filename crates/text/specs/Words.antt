@@ -1,8 +1,6 @@
 -- The words of a line
-use Rattle.std.specs.Prelude.{ℕ, ◌≤◌, ◌<◌, Bool, false, ◌||◌, cond, List, [], ◌∷◌, ◌++◌, eqb, ◌≡◌, length, drop, get_or}
+use Rattle.std.specs.Prelude.{ℕ, ◌≤◌, ◌<◌, Bool, ◌||◌, cond, List, [], ◌∷◌, ◌++◌, eqb, length, drop, Option, Some, None}
 use Rattle.std.proofs.Math.Seq.{slice}
-use Rattle.text.specs.declared.Span.{Span}
-use Rattle.text.specs.declared.Span.TheVariants.{Word, Nothing}
 
 -- a space or a tab
 abbrev pub is_blank : ℕ → Bool
@@ -24,24 +22,11 @@ unfoldable pub words : List ℕ → List (List ℕ)
 words line = full (pieces [] line)
 
 -- the words from a found one on
-abbrev pub found : List ℕ → Span → List (List ℕ)
-found line (Word start end) = slice start end line ∷ words (drop end line)
-found line Nothing = []
+abbrev pub found : List ℕ → Option (ℕ × ℕ) → List (List ℕ)
+found line (Some (start, end)) = slice start end line ∷ words (drop end line)
+found line None = []
 
 -- a found word lies inside the line, at or after the place, and is not empty
-abbrev pub Inside : ℕ → List ℕ → Span → Type 0
-Inside at line (Word start end) = (at ≤ start) × (start < end) × (end ≤ length line)
-Inside at line Nothing = Unit {0}
-
--- What `word` has from its two halves. Its start: the next byte that is no blank, or the end of the line
-pub record StartsAt (line : List ℕ) (at start : ℕ) : Type 0 where
-  pub after : at ≤ start
-  pub within : start ≤ length line
-  pub rest : words (drop at line) ≡ words (drop start line)
-  pub letter : start < length line → is_blank (get_or line start 0) ≡ false
-
--- and the end of the word that starts there
-pub record EndsAt (line : List ℕ) (start end : ℕ) : Type 0 where
-  pub after : start < end
-  pub within : end ≤ length line
-  pub split : words (drop start line) ≡ slice start end line ∷ words (drop end line)
+abbrev pub Inside : ℕ → List ℕ → Option (ℕ × ℕ) → Type 0
+Inside at line (Some (start, end)) = (at ≤ start) × (start < end) × (end ≤ length line)
+Inside at line None = Unit {0}

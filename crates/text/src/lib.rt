@@ -1,56 +1,30 @@
 // Lines of text as slices of bytes: where a line ends, its words, hexadecimal words, and numbers written as text.
 #![tactic(auto)]
 
-ghost use Rattle.std.specs.Prelude.{◌≤◌, ◌<◌, ◌≡◌, false, length, drop, get_or};
+ghost use Rattle.std.specs.Prelude.{◌≤◌, ◌<◌, ◌≡◌, ◌==◌, not, length, drop, position};
 ghost use Rattle.text.specs.Lines.{line_end, bare, Ahead};
-ghost use Rattle.text.specs.Words.{is_blank, words, found, Inside, StartsAt, EndsAt};
+ghost use Rattle.text.specs.Words.{is_blank, words, found, Inside};
 ghost use Rattle.text.specs.Hex.{digit as Hex·digit, value as Hex·value, hex_word, hex_part, Small};
-ghost use Rattle.text.specs.Same.{same as Same·same, is_part};
+ghost use Rattle.text.specs.Same.{is_part};
 ghost use Rattle.text.specs.Digits.{glyph as Digits·glyph, hex_digits, decimal_digits};
 ghost use Rattle.text.specs.Written.{written};
 
-// A place in a text, where there is one.
-#[derive(Clone, Copy)]
-pub enum Found {
-    At(usize),
-    Nothing,
-}
-
-// A word of a line: where it starts, and where it ends.
-#[derive(Clone, Copy)]
-pub enum Span {
-    Word(usize, usize),
-    Nothing,
-}
-
-// A word that is a number, or is none.
-#[derive(Clone, Copy)]
-pub enum Number {
-    Is(u32),
-    Nothing,
-}
-
-// The place behind what was written, or that it did not fit.
-#[derive(Clone, Copy)]
-pub enum Written {
-    To(usize),
-    Full,
+// The place of the first newline.
+fn first_newline(text: &[u8]) -> Option<usize>
+    ensures { result ≡ position (λ b. b == 10) text.now }
+{
+    text.iter().position(|b| *b == b'\n')
 }
 
 // The first newline at or after a place.
-#[tactic(auto, using(crate::proofs::LineLaws::newline_here, crate::proofs::LineLaws::newline_next, crate::proofs::LineLaws::newline_none))]
-pub fn line_end(text: &[u8], from: usize) -> Found
+#[tactic(auto, using(crate::proofs::LineLaws::newline_past))]
+pub fn line_end(text: &[u8], from: usize) -> Option<usize>
     ensures from_value { line_end text.now from ≡ result }
     ensures ahead { Ahead from text.now result }
 {
-    let mut i = from;
-    while i < text.len() {
-        if text[i] == b'\n' {
-            return Found::At(i);
-        }
-        i += 1;
-    }
-    Found::Nothing
+    let rest = text.get(from..)?;
+    let before = first_newline(rest)?;
+    Some(from + before)
 }
 
 // How much of a line is left without the carriage return that may end it.
@@ -59,226 +33,148 @@ pub fn line_length(line: &[u8]) -> usize
     ensures line_len { length (bare line.now) ≡ result }
     ensures upper_bound { result ≤ length line.now }
 {
-    let n = line.len();
-    if n == 0 {
-        return 0;
+    match line.last() {
+        Some(b'\r') => line.len() - 1,
+        _ => line.len(),
     }
-    if line[n - 1] == b'\r' {
-        return n - 1;
-    }
-    n
 }
 
 // A space or a tab.
 fn is_blank(b: u8) -> bool
-    ensures { is_blank b ≡ result }
+    ensures { result ≡ is_blank b }
 {
-    if b == b' ' { true } else { b == b'\t' }
+    b == b' ' || b == b'\t'
 }
 
-// The first byte at or after a place that is no blank, or the line's end.
-#[tactic(auto, using(crate::proofs::WordLaws::pass_blank))]
-fn word_start(line: &[u8], at: usize) -> usize
-    requires { at ≤ length line.now }
-    ensures { StartsAt line.now at result }
+// The place of the first byte that is no blank.
+fn first_letter(line: &[u8]) -> Option<usize>
+    ensures { result ≡ position (λ b. not (is_blank b)) line.now }
 {
-    let mut i = at;
-    while i < line.len() {
-        if !is_blank(line[i]) {
-            return i;
-        }
-        i += 1;
-    }
-    i
+    line.iter().position(|b| !is_blank(*b))
 }
 
-// The first blank after a place, or the line's end.
-#[tactic(auto, using(crate::proofs::WordLaws::first_letter, crate::proofs::WordLaws::join_letter, crate::proofs::WordLaws::end_at_blank, crate::proofs::WordLaws::end_at_end))]
-fn word_end(line: &[u8], start: usize) -> usize
-    requires start_in_bounds { start < length line.now }
-    requires start_value { is_blank (get_or line.now start 0) ≡ false }
-    ensures { EndsAt line.now start result }
+// The place of the first blank.
+fn first_blank(line: &[u8]) -> Option<usize>
+    ensures { result ≡ position is_blank line.now }
 {
-    let mut i = start + 1;
-    while i < line.len() {
-        if is_blank(line[i]) {
-            return i;
-        }
-        i += 1;
-    }
-    i
+    line.iter().position(|b| is_blank(*b))
 }
 
 // The first word at or after a place. Going on from its end gives all the words.
 #[tactic(auto, using(crate::proofs::WordLaws::no_words))]
-pub fn word(line: &[u8], at: usize) -> Span
+pub fn word(line: &[u8], at: usize) -> Option<(usize, usize)>
     ensures line_value { words (drop at line.now) ≡ found line.now result }
     ensures inside { Inside at line.now result }
 {
-    if at >= line.len() {
-        return Span::Nothing;
-    }
-    let start = word_start(line, at);
-    if start >= line.len() {
-        return Span::Nothing;
-    }
-    let end = word_end(line, start);
-    Span::Word(start, end)
+    let rest = line.get(at..)?;
+    let start = at + first_letter(rest)?;
+    let end = match first_blank(&line[start..]) {
+        Some(length) => start + length,
+        None => line.len(),
+    };
+    Some((start, end))
 }
 
 // A hexadecimal digit of either case.
-#[tactic(auto, using(crate::proofs::HexLaws::digit_figure, crate::proofs::HexLaws::digit_small, crate::proofs::HexLaws::digit_capital, crate::proofs::HexLaws::no_digit_1, crate::proofs::HexLaws::no_digit_2, crate::proofs::HexLaws::no_digit_3, crate::proofs::HexLaws::no_digit_4))]
-fn digit(b: u8) -> Number
+#[tactic(auto, using(crate::proofs::HexLaws::digit_reads, crate::proofs::HexLaws::small_reads))]
+fn digit(b: u8) -> Option<u32>
     ensures b_value { Hex·digit b ≡ result }
     ensures small { Small result }
 {
-    match b {
-        b'0'..=b'9' => Number::Is((b - b'0') as u32),
-        b'a'..=b'f' => Number::Is((b - b'a') as u32 + 10),
-        b'A'..=b'F' => Number::Is((b - b'A') as u32 + 10),
-        _ => Number::Nothing,
-    }
+    char::from(b).to_digit(16)
 }
 
 // The value of digits, of which eight fill 32 bits.
-#[tactic(auto, using(crate::proofs::HexLaws::value_end, crate::proofs::HexLaws::value_stop, crate::proofs::HexLaws::value_next, crate::proofs::HexLaws::one_more, crate::proofs::HexLaws::room))]
-fn value(word: &[u8]) -> Number
+#[tactic(auto, using(crate::proofs::HexLaws::value_end, crate::proofs::HexLaws::value_stop, crate::proofs::HexLaws::room))]
+fn value(word: &[u8]) -> Option<u32>
     requires { length word.now ≤ 8 }
     ensures { Hex·value 0 word.now ≡ result }
 {
     let mut v: u32 = 0;
-    let mut i = 0;
-    while i < word.len() {
-        let Number::Is(d) = digit(word[i]) else {
-            return Number::Nothing;
-        };
+    for b in word {
+        let d = digit(*b)?;
         v = 16 * v + d;
-        i += 1;
     }
-    Number::Is(v)
+    Some(v)
 }
 
 // A word of so many digits, eight at most, so that its value fits.
 #[tactic(auto, unfolding(crate::specs::Hex::hex_word))]
-fn hex_word(word: &[u8], fewest: usize, most: usize) -> Number
+fn hex_word(word: &[u8], fewest: usize, most: usize) -> Option<u32>
     ensures { hex_word fewest most word.now ≡ result }
 {
-    if word.len() < fewest {
-        return Number::Nothing;
-    }
-    if word.len() > most {
-        return Number::Nothing;
-    }
-    if word.len() > 8 {
-        return Number::Nothing;
+    if word.len() < fewest || word.len() > most || word.len() > 8 {
+        return None;
     }
     value(word)
 }
 
 // The part of a line from `start` up to `end` as a hexadecimal number of `fewest` to `most` digits, eight at most.
 #[tactic(auto, using(crate::proofs::PartLaws::part_slice), unfolding(crate::specs::Hex::hex_part))]
-pub fn hex(line: &[u8], start: usize, end: usize, fewest: usize, most: usize) -> Number
+pub fn hex(line: &[u8], start: usize, end: usize, fewest: usize, most: usize) -> Option<u32>
     ensures { hex_part line.now start end fewest most ≡ result }
 {
-    if start > end {
-        return Number::Nothing;
-    }
-    if end > line.len() {
-        return Number::Nothing;
-    }
-    hex_word(&line[start..end], fewest, most)
-}
-
-// Equal, byte by byte.
-#[tactic(auto, using(crate::proofs::SameLaws::same_lengths, crate::proofs::SameLaws::same_differs, crate::proofs::SameLaws::same_next, crate::proofs::SameLaws::same_end))]
-fn same(a: &[u8], b: &[u8]) -> bool
-    ensures { Same·same a.now b.now ≡ result }
-{
-    if a.len() != b.len() {
-        return false;
-    }
-    let mut i = 0;
-    while i < a.len() {
-        if a[i] != b[i] {
-            return false;
-        }
-        i += 1;
-    }
-    true
+    hex_word(line.get(start..end)?, fewest, most)
 }
 
 // Whether the part of a line from `start` up to `end` is this name.
-#[tactic(auto, using(crate::proofs::PartLaws::part_slice), unfolding(crate::specs::Same::is_part))]
+#[tactic(auto, using(crate::proofs::PartLaws::part_slice, crate::proofs::SameLaws::same_pointwise), unfolding(crate::specs::Same::is_part))]
 pub fn is(line: &[u8], start: usize, end: usize, name: &[u8]) -> bool
     ensures { is_part line.now start end name.now ≡ result }
 {
-    if start > end {
-        return false;
-    }
-    if end > line.len() {
-        return false;
-    }
-    same(&line[start..end], name)
+    line.get(start..end).is_some_and(|part| part == name)
 }
 
-// Puts bytes into a buffer from a place on, or changes nothing where they do not fit. The place may lie anywhere, so what
-// is left behind it is found by subtraction.
-#[tactic(auto, using(crate::proofs::PutLaws::sets_next, crate::proofs::PutLaws::sets_end, crate::proofs::PutLaws::written_full, crate::proofs::PutLaws::written_fits))]
-pub fn put(out: &mut [u8], at: usize, bytes: &[u8]) -> Written
+// Puts bytes into a buffer from a place on, or changes nothing where they do not fit. The place may lie anywhere.
+#[tactic(auto, using(crate::proofs::PutLaws::written_full, crate::proofs::PutLaws::written_copy))]
+pub fn put(out: &mut [u8], at: usize, bytes: &[u8]) -> Option<usize>
     ensures { written out.old at bytes.now ≡ (result, out.new) }
 {
-    if at > out.len() {
-        return Written::Full;
+    let end = at.checked_add(bytes.len())?;
+    if end > out.len() {
+        return None;
     }
-    if out.len() - at < bytes.len() {
-        return Written::Full;
-    }
-    let mut i = 0;
-    while i < bytes.len() {
-        out[at + i] = bytes[i];
-        i += 1;
-    }
-    Written::To(at + bytes.len())
+    out[at..end].copy_from_slice(bytes);
+    Some(end)
 }
 
-// A digit below 16 as text. 87 is `a` less ten.
-fn glyph(d: u64) -> u8
+// A digit below 16 as text.
+fn glyph(d: u8) -> u8
     requires { d < 16 }
     ensures { Digits·glyph d ≡ result }
 {
-    if d < 10 { b'0' + d as u8 } else { 87 + d as u8 }
+    if d < 10 { b'0' + d } else { b'a' + (d - 10) }
 }
 
 // Eight hexadecimal digits in lower case.
 #[tactic(auto, using(crate::proofs::DigitLaws::hex_turn, crate::proofs::DigitLaws::hex_done))]
-pub fn put_hex(out: &mut [u8], at: usize, v: u32) -> Written
+pub fn put_hex(out: &mut [u8], at: usize, v: u32) -> Option<usize>
     ensures { written out.old at (hex_digits v) ≡ (result, out.new) }
 {
     let mut text = [0u8; 8];
-    let mut rest = v as u64;
-    let mut i: usize = 8;
-    while i > 0 {
-        i -= 1;
-        text[i] = glyph(rest % 16);
+    let mut rest = v;
+    for i in (0..8).rev() {
+        text[i] = glyph((rest % 16) as u8);
         rest /= 16;
     }
     put(out, at, &text)
 }
 
 // Decimal digits, with no zero in front. A u64 has twenty at most.
-#[tactic(auto, using(crate::proofs::PartLaws::part_rest, crate::proofs::DigitLaws::decimal_turn, crate::proofs::DigitLaws::decimal_last, crate::proofs::DigitLaws::two_places, crate::proofs::DigitLaws::tenth))]
-pub fn put_decimal(out: &mut [u8], at: usize, v: u64) -> Written
+#[tactic(auto, using(std::proofs::lemmas::Slice::between_to_end, crate::proofs::DigitLaws::decimal_last))]
+pub fn put_decimal(out: &mut [u8], at: usize, v: u64) -> Option<usize>
     ensures { written out.old at (decimal_digits v) ≡ (result, out.new) }
 {
     let mut text = [0u8; 20];
     let mut rest = v;
     let mut i: usize = 20;
+    // A `while`, since the digits come last first and their count is not known before.
     while rest >= 10 {
         i -= 1;
-        text[i] = glyph(rest % 10);
+        text[i] = glyph((rest % 10) as u8);
         rest /= 10;
     }
     i -= 1;
-    text[i] = glyph(rest);
+    text[i] = glyph(rest as u8);
     put(out, at, &text[i..])
 }

@@ -6,15 +6,12 @@ use mathlib.Core.List.{List, [], ◌∷◌}
 use native.Mathlib.Omega.{arith}
 use lib.ListN.{length, set, take, drop}
 use lib.Seq.{sets, take-nil}
+use Rattle.std.proofs.Common.{Option, Some, None}
 use Rattle.hardware.specs.Talk.{pick}
 use Rattle.text.specs.Hex.{hex_word}
-use Rattle.text.specs.declared.Number.{Number}
-use Rattle.text.specs.declared.Number.TheVariants as number
 use Rattle.trace.specs.Arguments.{numbers, all_numbers, before, is_number, arguments_of}
 use Rattle.trace.specs.Operation.{by_name, operation_of}
-use Rattle.trace.specs.declared.arguments.Arguments.TheVariants as arguments
-use Rattle.trace.specs.declared.kinds.OperationLine.{OperationLine}
-use Rattle.trace.specs.declared.kinds.OperationLine.TheVariants.{Bad}
+use Rattle.trace.specs.Kinds.{Line}
 
 -- words that were stored from the front on stand there, as far as there is room
 sets_behind : (x : ℕ) (l : List ℕ) (i : ℕ) (vs : List ℕ) → sets (x ∷ l) (suc i) vs ≡ x ∷ sets l i vs
@@ -31,17 +28,17 @@ front [] (v ∷ vs) = rw (no_room 1 vs)
 front (x ∷ l) (v ∷ vs) = rw (sets_behind v l 0 vs) (ap (λ (r : List ℕ). v ∷ r) (front l vs))
 
 -- what `read` says of the words behind a name
-said_are : (b : Bool) (m : ℕ) {n : ℕ} → pick b (arguments.Are m) arguments.Bad ≡ arguments.Are n → (b ≡ true) × (m ≡ n)
+said_are : (b : Bool) (m : ℕ) {n : ℕ} → pick b (Some m) None ≡ Some n → (b ≡ true) × (m ≡ n)
 said_are true m e = (refl, cc)
 said_are false m e = let z : ◌≡◌ {A = ℕ} 0 1 = cc in absurd (omega arith)
 
-said_bad : (b : Bool) (m : ℕ) → pick b (arguments.Are m) arguments.Bad ≡ arguments.Bad → b ≡ false
+said_bad : (b : Bool) (m : ℕ) → pick b (Some m) None ≡ None → b ≡ false
 said_bad true m e = let z : ◌≡◌ {A = ℕ} 0 1 = cc in absurd (omega arith)
 said_bad false m e = refl
 
-one_more : (x : Number) (b : Bool) (vs : List ℕ) {n : ℕ} → is_number x b ≡ true → (b ≡ true → length vs ≡ n) → length (before vs x) ≡ suc n
-one_more (number.Is v) b vs e h = ap suc (h e)
-one_more number.Nothing b vs e h = let z : ◌≡◌ {A = ℕ} 0 1 = cc in absurd (omega arith)
+one_more : (x : Option ℕ) (b : Bool) (vs : List ℕ) {n : ℕ} → is_number x b ≡ true → (b ≡ true → length vs ≡ n) → length (before vs x) ≡ suc n
+one_more (Some v) b vs e h = ap suc (h e)
+one_more None b vs e h = let z : ◌≡◌ {A = ℕ} 0 1 = cc in absurd (omega arith)
 
 all_counted : (ws : List (List ℕ)) → all_numbers ws ≡ true → length (numbers ws) ≡ length ws
 all_counted [] e = refl
@@ -51,10 +48,10 @@ module _ {line : List (List ℕ)} {w : List ℕ} {ws : List (List ℕ)} (e : lin
   pub kept : (old : List ℕ) {new : List ℕ} → new ≡ sets old 0 (numbers ws) → new ≡ sets old 0 (numbers (drop 1 line))
   kept old h = rw e h
 
-  pub not_read : arguments_of ws ≡ arguments.Bad → operation_of line ≡ Bad
+  pub not_read : arguments_of ws ≡ None → operation_of line ≡ None
   not_read h = rw (e, said_bad (all_numbers ws) (length ws) h)
 
-  pub are_read : (old : List ℕ) {n : ℕ} {r : OperationLine} → arguments_of ws ≡ arguments.Are n → length old ≡ 17
+  pub are_read : (old : List ℕ) {n : ℕ} {r : Line} → arguments_of ws ≡ Some n → length old ≡ 17
       → by_name w (take n (sets old 0 (numbers ws))) ≡ r → operation_of line ≡ r
   are_read old {n} h long g =
       let s = said_are (all_numbers ws) (length ws) h in

@@ -1,48 +1,46 @@
 -- The operations of mdio.rs: their names and arguments
-use Rattle.std.specs.Prelude.{ℕ, Bool, List, [], ◌∷◌}
+use Rattle.std.specs.Prelude.{ℕ, Bool, List, [], ◌∷◌, Option}
 use Rattle.hardware.specs.Talk.{pick}
 use Rattle.text.specs.Same.{same}
 use Rattle.phy.specs.declared.advertise.Advertised.{Advertised}
-use Rattle.phy.specs.declared.advertise.MaybeFlag.{MaybeFlag}
 use Rattle.phy.specs.declared.modify.Register.{Register}
 use Rattle.start.specs.declared.operation.Operation.{Operation}
 use Rattle.start.specs.declared.operation.Operation.TheVariants.{ReadReg, WriteReg, Modify, Probe, Scan, Reset, Abilities, Advertise, AnLink}
-use Rattle.trace.specs.Kinds.{no_more, with_word, with_half, with_truth, with_maybe}
+use Rattle.trace.specs.Kinds.{Line, no_more, with_word, with_half, with_truth, with_maybe}
 use Rattle.trace.specs.Kr.{kr_name}
-use Rattle.trace.specs.declared.kinds.OperationLine.{OperationLine}
 
-abbrev pub with_read_reg : List ℕ → OperationLine
+abbrev pub with_read_reg : List ℕ → Line
 with_read_reg = with_word λ phy. with_word λ dev. with_half λ reg. no_more (ReadReg phy dev reg)
 
-abbrev pub with_write_reg : List ℕ → OperationLine
+abbrev pub with_write_reg : List ℕ → Line
 with_write_reg = with_word λ phy. with_word λ dev. with_half λ reg. with_half λ value. no_more (WriteReg phy dev reg value)
 
 abbrev pub register : ℕ → ℕ → ℕ → ℕ → ℕ → Register
 register phy dev reg keep set = record { phy = phy; device = dev; register = reg; keep = keep; set = set }
 
 -- the bits to keep, then those to set
-abbrev pub with_modify : List ℕ → OperationLine
+abbrev pub with_modify : List ℕ → Line
 with_modify =
     with_word λ phy. with_word λ dev. with_half λ reg. with_half λ keep. with_half λ set. no_more (Modify (register phy dev reg keep set))
 
 -- a PHY's address alone
-abbrev pub with_phy : (ℕ → Operation) → List ℕ → OperationLine
+abbrev pub with_phy : (ℕ → Operation) → List ℕ → Line
 with_phy what = with_word λ phy. no_more (what phy)
 
-abbrev pub with_reset : List ℕ → OperationLine
+abbrev pub with_reset : List ℕ → Line
 with_reset = with_word λ phy. with_truth λ x557. no_more (Reset phy x557)
 
-abbrev pub advertised : ℕ → Bool → Bool → Bool → MaybeFlag → Bool → Advertised
+abbrev pub advertised : ℕ → Bool → Bool → Bool → Option Bool → Bool → Advertised
 advertised phy g10 g1 m100 nbase veto =
     record { phy = phy; speeds = record { g10 = g10; g1 = g1; m100 = m100 }; nbase = nbase; veto = veto }
 
-abbrev pub with_advertise : List ℕ → OperationLine
+abbrev pub with_advertise : List ℕ → Line
 with_advertise =
     with_word λ phy. with_truth λ g10. with_truth λ g1. with_truth λ m100. with_maybe λ nbase. with_truth λ veto.
     no_more (Advertise (advertised phy g10 g1 m100 nbase veto))
 
 -- `reset`, `abilities`, `advertise`, `an_link`, or one of x552.rs or x553.rs
-unfoldable pub phy_name : List ℕ → List ℕ → OperationLine
+unfoldable pub phy_name : List ℕ → List ℕ → Line
 phy_name w vs =
     pick (same w (114 ∷ 101 ∷ 115 ∷ 101 ∷ 116 ∷ [])) (with_reset vs)
     (pick (same w (97 ∷ 98 ∷ 105 ∷ 108 ∷ 105 ∷ 116 ∷ 105 ∷ 101 ∷ 115 ∷ [])) (with_phy Abilities vs)
@@ -51,7 +49,7 @@ phy_name w vs =
     (kr_name w vs))))
 
 -- `read_reg`, `write_reg`, `modify`, `probe`, `scan`, or one of the above
-unfoldable pub mdio_name : List ℕ → List ℕ → OperationLine
+unfoldable pub mdio_name : List ℕ → List ℕ → Line
 mdio_name w vs =
     pick (same w (114 ∷ 101 ∷ 97 ∷ 100 ∷ 95 ∷ 114 ∷ 101 ∷ 103 ∷ [])) (with_read_reg vs)
     (pick (same w (119 ∷ 114 ∷ 105 ∷ 116 ∷ 101 ∷ 95 ∷ 114 ∷ 101 ∷ 103 ∷ [])) (with_write_reg vs)

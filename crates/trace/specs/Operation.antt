@@ -1,29 +1,27 @@
 -- The operation line: a name, then argument words
-use Rattle.std.specs.Prelude.{ℕ, List, [], ◌∷◌, length, take}
+use Rattle.std.specs.Prelude.{ℕ, List, [], ◌∷◌, length, take, Some, None}
 use Rattle.hardware.specs.Talk.{pick}
 use Rattle.text.specs.Same.{same}
 use Rattle.activity.specs.declared.Asked.{Asked}
 use Rattle.start.specs.declared.operation.Operation.{Operation}
 use Rattle.start.specs.declared.operation.Operation.TheVariants.{Veto, Link, Acquire, Release, Command, Token, PhyActivity}
 use Rattle.trace.specs.Arguments.{numbers, all_numbers}
-use Rattle.trace.specs.Kinds.{no_more, with_word, with_half, with_truth}
+use Rattle.trace.specs.Kinds.{Line, no_more, with_word, with_half, with_truth}
 use Rattle.trace.specs.Mdio.{mdio_name}
-use Rattle.trace.specs.declared.kinds.OperationLine.{OperationLine}
-use Rattle.trace.specs.declared.kinds.OperationLine.TheVariants.{Is, Bad}
 
 -- all words are the host block's
-abbrev pub with_block : Operation → List ℕ → OperationLine
-with_block what vs = Is what (length vs)
+abbrev pub with_block : Operation → List ℕ → Line
+with_block what vs = Some (what, length vs)
 
 abbrev pub asked : ℕ → ℕ → ℕ → ℕ → ℕ → Asked
 asked activity d0 d1 d2 d3 = record { activity = activity; «data» = record { w0 = d0; w1 = d1; w2 = d2; w3 = d3 } }
 
-abbrev pub with_activity : List ℕ → OperationLine
+abbrev pub with_activity : List ℕ → Line
 with_activity =
     with_half λ activity. with_word λ d0. with_word λ d1. with_word λ d2. with_word λ d3. no_more (PhyActivity (asked activity d0 d1 d2 d3))
 
 -- `command`, `token`, `phy_activity`, or one of mdio.rs
-unfoldable pub hostif_name : List ℕ → List ℕ → OperationLine
+unfoldable pub hostif_name : List ℕ → List ℕ → Line
 hostif_name w vs =
     pick (same w (99 ∷ 111 ∷ 109 ∷ 109 ∷ 97 ∷ 110 ∷ 100 ∷ [])) (with_block Command vs)
     (pick (same w (116 ∷ 111 ∷ 107 ∷ 101 ∷ 110 ∷ [])) (with_truth (λ take. no_more (Token take)) vs)
@@ -31,7 +29,7 @@ hostif_name w vs =
     (mdio_name w vs)))
 
 -- `veto`, `link`, `acquire`, `release`, or one of the above
-unfoldable pub by_name : List ℕ → List ℕ → OperationLine
+unfoldable pub by_name : List ℕ → List ℕ → Line
 by_name w vs =
     pick (same w (118 ∷ 101 ∷ 116 ∷ 111 ∷ [])) (no_more Veto vs)
     (pick (same w (108 ∷ 105 ∷ 110 ∷ 107 ∷ [])) (no_more Link vs)
@@ -40,6 +38,6 @@ by_name w vs =
     (hostif_name w vs))))
 
 -- a name, then numbers alone. No operation takes more than sixteen, so what follows the seventeenth changes nothing
-abbrev pub operation_of : List (List ℕ) → OperationLine
-operation_of [] = Bad
-operation_of (w ∷ ws) = pick (all_numbers ws) (by_name w (take 17 (numbers ws))) Bad
+abbrev pub operation_of : List (List ℕ) → Line
+operation_of [] = None
+operation_of (w ∷ ws) = pick (all_numbers ws) (by_name w (take 17 (numbers ws))) None

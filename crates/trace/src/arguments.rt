@@ -4,16 +4,10 @@ ghost use Rattle.std.proofs.lemmas.List.Edits.{sets};
 ghost use Rattle.text.specs.Words.{words};
 ghost use Rattle.trace.specs.Arguments.{numbers, arguments_of};
 
-use text::{Number, Span, hex, word};
-
-// How many there are; or that one of them is no number.
-#[derive(Clone, Copy)]
-pub enum Arguments {
-    Are(usize),
-    Bad,
-}
+use text::{hex, word};
 
 // A word beyond the buffer is read and not kept.
+#[tactic(auto, using(crate::proofs::ArgumentLaws::past_end))]
 fn keep(out: &mut [u32], at: usize, v: u32)
     ensures { out.new ≡ set out.old at v }
 {
@@ -22,22 +16,20 @@ fn keep(out: &mut [u32], at: usize, v: u32)
     }
 }
 
-// The arguments from a place of the line on. All are counted, and as many are kept as the buffer has places.
-pub fn read(line: &[u8], from: usize, out: &mut [u32]) -> Arguments
+// The arguments from a place of the line on, or nothing where one of them is no number. All are counted, and as many are
+// kept as the buffer has places.
+pub fn read(line: &[u8], from: usize, out: &mut [u32]) -> Option<usize>
     ensures line_value { arguments_of (words (drop from line.now)) ≡ result }
     ensures out_after { out.new ≡ sets out.old 0 (numbers (words (drop from line.now))) }
 {
     let mut at = from;
     let mut n: usize = 0;
-    loop {
-        let Span::Word(start, end) = word(line, at) else {
-            return Arguments::Are(n);
-        };
-        let Number::Is(v) = hex(line, start, end, 8, 8) else {
-            return Arguments::Bad;
-        };
+    // A `while`, since each word begins where the last one ends.
+    while let Some((start, end)) = word(line, at) {
+        let v = hex(line, start, end, 8, 8)?;
         keep(out, n, v);
         n += 1;
         at = end;
     }
+    Some(n)
 }

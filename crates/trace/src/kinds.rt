@@ -1,29 +1,86 @@
-// What an operation line says, and what the reading of each operation needs.
+// The kinds of arguments. Each is taken from the front of the words that are left, and comes with those behind it.
 ghost use Rattle.std.specs.Prelude.{◌≡◌};
+ghost use Rattle.std.specs.Option.{option_map};
 ghost use Rattle.text.specs.Same.{same};
-ghost use Rattle.trace.specs.Kinds.{no_more};
+ghost use Rattle.trace.specs.Kinds.{no_more, word_of, half_of, truth_of, maybe_of, status_of};
 
 use start::operation::Operation;
 use text::is;
 
-// An operation, and how many of the argument words are its host block.
-#[derive(Clone, Copy)]
-pub enum OperationLine {
-    Is(Operation, usize),
-    Bad,
-}
-
+#[tactic(auto, using(lines::proofs::Laws::whole_is))]
 pub fn is_name(word: &[u8], name: &[u8]) -> bool
     ensures { same word.now name.now ≡ result }
 {
     is(word, 0, word.len(), name)
 }
 
-pub fn no_more(what: Operation, args: &[u32]) -> OperationLine
+// The operation, where no word is left. None of them was a host block's.
+#[tactic(auto, unfolding(crate::specs::Kinds::no_more))]
+pub fn no_more(what: Operation, args: &[u32]) -> Option<(Operation, usize)>
     ensures { no_more what args.now ≡ result }
 {
-    if args.len() != 0 {
-        return OperationLine::Bad;
+    if args.is_empty() {
+        Some((what, 0))
+    } else {
+        None
     }
-    OperationLine::Is(what, 0)
+}
+
+#[tactic(auto, unfolding(crate::specs::Kinds::word_of))]
+pub fn word(args: &[u32]) -> Option<(u32, &[u32])>
+    ensures { word_of args.now ≡ option_map (λ p. (p.0, p.1.now)) result }
+{
+    let (v, rest) = args.split_first()?;
+    Some((*v, rest))
+}
+
+// A word whose upper half is clear.
+#[tactic(auto, unfolding(crate::specs::Kinds::half_of))]
+pub fn half(args: &[u32]) -> Option<(u16, &[u32])>
+    ensures { half_of args.now ≡ option_map (λ p. (p.0, p.1.now)) result }
+{
+    let (v, rest) = word(args)?;
+    if v > 0xffff {
+        return None;
+    }
+    Some((v as u16, rest))
+}
+
+// 0 or 1.
+#[tactic(auto, unfolding(crate::specs::Kinds::truth_of))]
+pub fn truth(args: &[u32]) -> Option<(bool, &[u32])>
+    ensures { truth_of args.now ≡ option_map (λ p. (p.0, p.1.now)) result }
+{
+    let (v, rest) = word(args)?;
+    match v {
+        0 => Some((false, rest)),
+        1 => Some((true, rest)),
+        _ => None,
+    }
+}
+
+// 0 where there is none, or 1 and then its 0 or 1.
+#[tactic(auto, unfolding(crate::specs::Kinds::maybe_of))]
+pub fn maybe(args: &[u32]) -> Option<(Option<bool>, &[u32])>
+    ensures { maybe_of args.now ≡ option_map (λ p. (p.0, p.1.now)) result }
+{
+    let (given, rest) = word(args)?;
+    match given {
+        0 => Some((None, rest)),
+        1 => truth(rest).map(|(value, rest)| (Some(value), rest)),
+        _ => None,
+    }
+}
+
+// The same with a word whose upper half is clear.
+#[tactic(auto, unfolding(crate::specs::Kinds::status_of))]
+pub fn status(args: &[u32]) -> Option<(Option<u16>, &[u32])>
+    ensures { status_of args.now ≡ option_map (λ p. (p.0, p.1.now)) result }
+{
+    let (given, rest) = word(args)?;
+    match given {
+        0 => Some((None, rest)),
+        1 => half(rest).map(|(value, rest)| (Some(value), rest)),
+        _ => None,
+    }
 }

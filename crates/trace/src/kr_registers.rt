@@ -2,72 +2,52 @@
 ghost use Rattle.std.specs.Prelude.{◌≡◌};
 ghost use Rattle.trace.specs.Kr.{with_kr_read, with_kr_write, with_kr_modify, with_kr_autoneg, with_nvm_word, rest_name, kr_name};
 
-use crate::kinds::{OperationLine, is_name, no_more};
+use crate::kinds::{half, is_name, no_more, truth, word};
 use crate::setups::setup_named;
 use kr::modify::Change;
 use start::operation::Operation;
 
-fn kr_read(args: &[u32]) -> OperationLine
+fn kr_read(args: &[u32]) -> Option<(Operation, usize)>
     ensures { with_kr_read args.now ≡ result }
 {
-    if args.len() != 1 {
-        return OperationLine::Bad;
-    }
-    OperationLine::Is(Operation::KrRead(args[0]), 0)
+    let (address, args) = word(args)?;
+    no_more(Operation::KrRead(address), args)
 }
 
-fn kr_write(args: &[u32]) -> OperationLine
+fn kr_write(args: &[u32]) -> Option<(Operation, usize)>
     ensures { with_kr_write args.now ≡ result }
 {
-    if args.len() != 2 {
-        return OperationLine::Bad;
-    }
-    OperationLine::Is(Operation::KrWrite(args[0], args[1]), 0)
+    let (address, args) = word(args)?;
+    let (value, args) = word(args)?;
+    no_more(Operation::KrWrite(address, value), args)
 }
 
-fn kr_modify(args: &[u32]) -> OperationLine
+fn kr_modify(args: &[u32]) -> Option<(Operation, usize)>
     ensures { with_kr_modify args.now ≡ result }
 {
-    if args.len() != 3 {
-        return OperationLine::Bad;
-    }
-    let change = Change {
-        port0: args[0],
-        keep: args[1],
-        set: args[2],
-    };
-    OperationLine::Is(Operation::KrModify(change), 0)
+    let (port0, args) = word(args)?;
+    let (keep, args) = word(args)?;
+    let (set, args) = word(args)?;
+    no_more(Operation::KrModify(Change { port0, keep, set }), args)
 }
 
-fn kr_autoneg(args: &[u32]) -> OperationLine
+fn kr_autoneg(args: &[u32]) -> Option<(Operation, usize)>
     ensures { with_kr_autoneg args.now ≡ result }
 {
-    if args.len() != 2 {
-        return OperationLine::Bad;
-    }
-    if args[0] > 1 {
-        return OperationLine::Bad;
-    }
-    if args[1] > 1 {
-        return OperationLine::Bad;
-    }
-    OperationLine::Is(Operation::KrAutoneg(args[0] == 1, args[1] == 1), 0)
+    let (kr, args) = truth(args)?;
+    let (kx, args) = truth(args)?;
+    no_more(Operation::KrAutoneg(kr, kx), args)
 }
 
-fn nvm_word(args: &[u32]) -> OperationLine
+fn nvm_word(args: &[u32]) -> Option<(Operation, usize)>
     ensures { with_nvm_word args.now ≡ result }
 {
-    if args.len() != 1 {
-        return OperationLine::Bad;
-    }
-    if args[0] > 0xffff {
-        return OperationLine::Bad;
-    }
-    OperationLine::Is(Operation::NvmWord(args[0] as u16), 0)
+    let (word, args) = half(args)?;
+    no_more(Operation::NvmWord(word), args)
 }
 
 #[tactic(auto, unfolding(crate::specs::Kr::rest_name))]
-fn rest_named(name: &[u8], args: &[u32]) -> OperationLine
+fn rest_named(name: &[u8], args: &[u32]) -> Option<(Operation, usize)>
     ensures { rest_name name.now args.now ≡ result }
 {
     if is_name(name, b"nvm_word") {
@@ -80,7 +60,7 @@ fn rest_named(name: &[u8], args: &[u32]) -> OperationLine
 }
 
 #[tactic(auto, unfolding(crate::specs::Kr::kr_name))]
-pub fn kr_named(name: &[u8], args: &[u32]) -> OperationLine
+pub fn kr_named(name: &[u8], args: &[u32]) -> Option<(Operation, usize)>
     ensures { kr_name name.now args.now ≡ result }
 {
     if is_name(name, b"kr_read") {

@@ -7,74 +7,57 @@ ghost use Rattle.trace.specs.Arguments.{numbers};
 ghost use Rattle.trace.specs.Kinds.{no_more, with_word, with_truth};
 ghost use Rattle.trace.specs.Operation.{with_block, with_activity, hostif_name, by_name, operation_of};
 
-use crate::arguments::{Arguments, read};
-use crate::kinds::{OperationLine, is_name, no_more};
+use crate::arguments::read;
+use crate::kinds::{half, is_name, no_more, truth, word};
 use crate::registers::mdio_named;
 use activity::Asked;
 use answers::Words;
 use start::operation::Operation;
-use text::{Span, word};
 
-fn acquire(args: &[u32]) -> OperationLine
+fn acquire(args: &[u32]) -> Option<(Operation, usize)>
     ensures { with_word (λ mask. no_more (operation.Acquire mask)) args.now ≡ result }
 {
-    if args.len() != 1 {
-        return OperationLine::Bad;
-    }
-    OperationLine::Is(Operation::Acquire(args[0]), 0)
+    let (mask, args) = word(args)?;
+    no_more(Operation::Acquire(mask), args)
 }
 
-fn release(args: &[u32]) -> OperationLine
+fn release(args: &[u32]) -> Option<(Operation, usize)>
     ensures { with_word (λ mask. no_more (operation.Release mask)) args.now ≡ result }
 {
-    if args.len() != 1 {
-        return OperationLine::Bad;
-    }
-    OperationLine::Is(Operation::Release(args[0]), 0)
+    let (mask, args) = word(args)?;
+    no_more(Operation::Release(mask), args)
 }
 
-fn command(args: &[u32]) -> OperationLine
+fn command(args: &[u32]) -> Option<(Operation, usize)>
     ensures { with_block operation.Command args.now ≡ result }
 {
-    OperationLine::Is(Operation::Command, args.len())
+    Some((Operation::Command, args.len()))
 }
 
-fn token(args: &[u32]) -> OperationLine
+fn token(args: &[u32]) -> Option<(Operation, usize)>
     ensures { with_truth (λ take. no_more (operation.Token take)) args.now ≡ result }
 {
-    if args.len() != 1 {
-        return OperationLine::Bad;
-    }
-    if args[0] > 1 {
-        return OperationLine::Bad;
-    }
-    OperationLine::Is(Operation::Token(args[0] == 1), 0)
+    let (take, args) = truth(args)?;
+    no_more(Operation::Token(take), args)
 }
 
-fn phy_activity(args: &[u32]) -> OperationLine
+fn phy_activity(args: &[u32]) -> Option<(Operation, usize)>
     ensures { with_activity args.now ≡ result }
 {
-    if args.len() != 5 {
-        return OperationLine::Bad;
-    }
-    if args[0] > 0xffff {
-        return OperationLine::Bad;
-    }
-    let data = Words {
-        w0: args[1],
-        w1: args[2],
-        w2: args[3],
-        w3: args[4],
-    };
+    let (activity, args) = half(args)?;
+    let (w0, args) = word(args)?;
+    let (w1, args) = word(args)?;
+    let (w2, args) = word(args)?;
+    let (w3, args) = word(args)?;
     let asked = Asked {
-        activity: args[0] as u16,
-        data,
+        activity,
+        data: Words { w0, w1, w2, w3 },
     };
-    OperationLine::Is(Operation::PhyActivity(asked), 0)
+    no_more(Operation::PhyActivity(asked), args)
 }
 
 #[tactic(auto, unfolding(crate::specs::Operation::hostif_name))]
-fn hostif_named(name: &[u8], args: &[u32]) -> OperationLine
+fn hostif_named(name: &[u8], args: &[u32]) -> Option<(Operation, usize)>
     ensures { hostif_name name.now args.now ≡ result }
 {
     if is_name(name, b"command") {
@@ -90,7 +73,7 @@ fn hostif_named(name: &[u8], args: &[u32]) -> OperationLine
 }
 
 #[tactic(auto, unfolding(crate::specs::Operation::by_name))]
-pub fn named(name: &[u8], args: &[u32]) -> OperationLine
+pub fn named(name: &[u8], args: &[u32]) -> Option<(Operation, usize)>
     ensures { by_name name.now args.now ≡ result }
 {
     if is_name(name, b"veto") {
@@ -109,26 +92,19 @@ pub fn named(name: &[u8], args: &[u32]) -> OperationLine
 }
 
 // The arguments are the first n words of the buffer, or all of them where there are no more.
-fn named_from(name: &[u8], buffer: &[u32], n: usize) -> OperationLine
+fn named_from(name: &[u8], buffer: &[u32], n: usize) -> Option<(Operation, usize)>
     ensures { by_name name.now (take n buffer.now) ≡ result }
 {
-    if n > buffer.len() {
-        return named(name, buffer);
-    }
-    named(name, &buffer[..n])
+    named(name, buffer.get(..n).unwrap_or(buffer))
 }
 
 // The argument words are left in the buffer. It has a place more than a host block may have words, so that a block that
 // is too long is seen to be.
-pub fn operation_line(line: &[u8], args: &mut [u32; 17]) -> OperationLine
+pub fn operation_line(line: &[u8], args: &mut [u32; 17]) -> Option<(Operation, usize)>
     ensures line_value { operation_of (words line.now) ≡ result }
     ensures args_after { args.new ≡ sets args.old 0 (numbers (drop 1 (words line.now))) }
 {
-    let Span::Word(start, end) = word(line, 0) else {
-        return OperationLine::Bad;
-    };
-    let Arguments::Are(n) = read(line, end, args) else {
-        return OperationLine::Bad;
-    };
+    let (start, end) = text::word(line, 0)?;
+    let n = read(line, end, args)?;
     named_from(&line[start..end], args, n)
 }

@@ -1,193 +1,101 @@
 // The operation lines of mdio.rs.
-ghost use Rattle.std.specs.Prelude.{◌≡◌, length};
+ghost use Rattle.std.specs.Prelude.{◌≡◌};
 ghost use Rattle.start.specs.declared.operation.Operation.TheVariants as operation;
 ghost use Rattle.trace.specs.Mdio.{with_read_reg, with_write_reg, with_modify, with_phy, with_reset, with_advertise, phy_name, mdio_name};
 
-use crate::kinds::{OperationLine, is_name, no_more};
+use crate::kinds::{half, is_name, maybe, no_more, truth, word};
 use crate::kr_registers::kr_named;
 use answers::Speeds;
-use phy::advertise::{Advertised, MaybeFlag};
+use phy::advertise::Advertised;
 use phy::modify::Register;
 use start::operation::Operation;
 
-fn read_reg(args: &[u32]) -> OperationLine
+fn read_reg(args: &[u32]) -> Option<(Operation, usize)>
     ensures { with_read_reg args.now ≡ result }
 {
-    if args.len() != 3 {
-        return OperationLine::Bad;
-    }
-    if args[2] > 0xffff {
-        return OperationLine::Bad;
-    }
-    OperationLine::Is(Operation::ReadReg(args[0], args[1], args[2] as u16), 0)
+    let (phy, args) = word(args)?;
+    let (device, args) = word(args)?;
+    let (register, args) = half(args)?;
+    no_more(Operation::ReadReg(phy, device, register), args)
 }
 
-fn write_reg(args: &[u32]) -> OperationLine
+fn write_reg(args: &[u32]) -> Option<(Operation, usize)>
     ensures { with_write_reg args.now ≡ result }
 {
-    if args.len() != 4 {
-        return OperationLine::Bad;
-    }
-    if args[2] > 0xffff {
-        return OperationLine::Bad;
-    }
-    if args[3] > 0xffff {
-        return OperationLine::Bad;
-    }
-    let register = args[2] as u16;
-    let value = args[3] as u16;
-    OperationLine::Is(Operation::WriteReg(args[0], args[1], register, value), 0)
+    let (phy, args) = word(args)?;
+    let (device, args) = word(args)?;
+    let (register, args) = half(args)?;
+    let (value, args) = half(args)?;
+    no_more(Operation::WriteReg(phy, device, register, value), args)
 }
 
-fn modify(args: &[u32]) -> OperationLine
+fn modify(args: &[u32]) -> Option<(Operation, usize)>
     ensures { with_modify args.now ≡ result }
 {
-    if args.len() != 5 {
-        return OperationLine::Bad;
-    }
-    if args[2] > 0xffff {
-        return OperationLine::Bad;
-    }
-    if args[3] > 0xffff {
-        return OperationLine::Bad;
-    }
-    if args[4] > 0xffff {
-        return OperationLine::Bad;
-    }
-    let register = Register {
-        phy: args[0],
-        device: args[1],
-        register: args[2] as u16,
-        keep: args[3] as u16,
-        set: args[4] as u16,
+    let (phy, args) = word(args)?;
+    let (device, args) = word(args)?;
+    let (register, args) = half(args)?;
+    let (keep, args) = half(args)?;
+    let (set, args) = half(args)?;
+    let at = Register {
+        phy,
+        device,
+        register,
+        keep,
+        set,
     };
-    OperationLine::Is(Operation::Modify(register), 0)
+    no_more(Operation::Modify(at), args)
 }
 
-fn probe(args: &[u32]) -> OperationLine
+fn probe(args: &[u32]) -> Option<(Operation, usize)>
     ensures { with_phy operation.Probe args.now ≡ result }
 {
-    if args.len() != 1 {
-        return OperationLine::Bad;
-    }
-    OperationLine::Is(Operation::Probe(args[0]), 0)
+    let (phy, args) = word(args)?;
+    no_more(Operation::Probe(phy), args)
 }
 
-fn reset(args: &[u32]) -> OperationLine
+fn reset(args: &[u32]) -> Option<(Operation, usize)>
     ensures { with_reset args.now ≡ result }
 {
-    if args.len() != 2 {
-        return OperationLine::Bad;
-    }
-    if args[1] > 1 {
-        return OperationLine::Bad;
-    }
-    OperationLine::Is(Operation::Reset(args[0], args[1] == 1), 0)
+    let (phy, args) = word(args)?;
+    let (x557, args) = truth(args)?;
+    no_more(Operation::Reset(phy, x557), args)
 }
 
-fn abilities(args: &[u32]) -> OperationLine
+fn abilities(args: &[u32]) -> Option<(Operation, usize)>
     ensures { with_phy operation.Abilities args.now ≡ result }
 {
-    if args.len() != 1 {
-        return OperationLine::Bad;
-    }
-    OperationLine::Is(Operation::Abilities(args[0]), 0)
+    let (phy, args) = word(args)?;
+    no_more(Operation::Abilities(phy), args)
 }
 
-// Without a value of nbase.
-fn advertise_six(args: &[u32]) -> OperationLine
-    requires { length args.now ≡ 6 }
+fn advertise(args: &[u32]) -> Option<(Operation, usize)>
     ensures { with_advertise args.now ≡ result }
 {
-    if args[1] > 1 {
-        return OperationLine::Bad;
-    }
-    if args[2] > 1 {
-        return OperationLine::Bad;
-    }
-    if args[3] > 1 {
-        return OperationLine::Bad;
-    }
-    if args[4] != 0 {
-        return OperationLine::Bad;
-    }
-    if args[5] > 1 {
-        return OperationLine::Bad;
-    }
-    let speeds = Speeds {
-        g10: args[1] == 1,
-        g1: args[2] == 1,
-        m100: args[3] == 1,
-    };
+    let (phy, args) = word(args)?;
+    let (g10, args) = truth(args)?;
+    let (g1, args) = truth(args)?;
+    let (m100, args) = truth(args)?;
+    let (nbase, args) = maybe(args)?;
+    let (veto, args) = truth(args)?;
     let advertised = Advertised {
-        phy: args[0],
-        speeds,
-        nbase: MaybeFlag::Nothing,
-        veto: args[5] == 1,
+        phy,
+        speeds: Speeds { g10, g1, m100 },
+        nbase,
+        veto,
     };
-    OperationLine::Is(Operation::Advertise(advertised), 0)
+    no_more(Operation::Advertise(advertised), args)
 }
 
-// With a value of nbase.
-fn advertise_seven(args: &[u32]) -> OperationLine
-    requires { length args.now ≡ 7 }
-    ensures { with_advertise args.now ≡ result }
-{
-    if args[1] > 1 {
-        return OperationLine::Bad;
-    }
-    if args[2] > 1 {
-        return OperationLine::Bad;
-    }
-    if args[3] > 1 {
-        return OperationLine::Bad;
-    }
-    if args[4] != 1 {
-        return OperationLine::Bad;
-    }
-    if args[5] > 1 {
-        return OperationLine::Bad;
-    }
-    if args[6] > 1 {
-        return OperationLine::Bad;
-    }
-    let speeds = Speeds {
-        g10: args[1] == 1,
-        g1: args[2] == 1,
-        m100: args[3] == 1,
-    };
-    let advertised = Advertised {
-        phy: args[0],
-        speeds,
-        nbase: MaybeFlag::Is(args[5] == 1),
-        veto: args[6] == 1,
-    };
-    OperationLine::Is(Operation::Advertise(advertised), 0)
-}
-
-fn advertise(args: &[u32]) -> OperationLine
-    ensures { with_advertise args.now ≡ result }
-{
-    if args.len() == 6 {
-        return advertise_six(args);
-    }
-    if args.len() == 7 {
-        return advertise_seven(args);
-    }
-    OperationLine::Bad
-}
-
-fn an_link(args: &[u32]) -> OperationLine
+fn an_link(args: &[u32]) -> Option<(Operation, usize)>
     ensures { with_phy operation.AnLink args.now ≡ result }
 {
-    if args.len() != 1 {
-        return OperationLine::Bad;
-    }
-    OperationLine::Is(Operation::AnLink(args[0]), 0)
+    let (phy, args) = word(args)?;
+    no_more(Operation::AnLink(phy), args)
 }
 
 #[tactic(auto, unfolding(crate::specs::Mdio::phy_name))]
-fn phy_named(name: &[u8], args: &[u32]) -> OperationLine
+fn phy_named(name: &[u8], args: &[u32]) -> Option<(Operation, usize)>
     ensures { phy_name name.now args.now ≡ result }
 {
     if is_name(name, b"reset") {
@@ -206,7 +114,7 @@ fn phy_named(name: &[u8], args: &[u32]) -> OperationLine
 }
 
 #[tactic(auto, unfolding(crate::specs::Mdio::mdio_name))]
-pub fn mdio_named(name: &[u8], args: &[u32]) -> OperationLine
+pub fn mdio_named(name: &[u8], args: &[u32]) -> Option<(Operation, usize)>
     ensures { mdio_name name.now args.now ≡ result }
 {
     if is_name(name, b"read_reg") {

@@ -10,10 +10,8 @@ use streams::output::flush;
 // The argument `left` asks for one line more.
 fn asks_for_left(rt: &impl Env) -> bool {
     let mut word = [0u8; 8];
-    match rt.arg(1, &mut word) {
-        Ok(len) => text::is(&word, 0, len, b"left"),
-        Err(_) => false,
-    }
+    rt.arg(1, &mut word)
+        .is_ok_and(|len| text::is(&word, 0, len, b"left"))
 }
 
 fn main(rt: HostRuntime) -> io::Result<()> {

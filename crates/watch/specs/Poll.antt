@@ -1,21 +1,20 @@
 -- What a suspended `poll` still says, from what its job gives
-use Rattle.std.specs.Prelude.{ℕ, ◌%◌, Bool, List}
-use Rattle.hardware.specs.Talk.{Call, Res, ok, err, end, and_then, pick, ◌>>=◌, ◌>>◌}
+use Rattle.access.specs.declared.access.Job.{Job}
+use Rattle.access.specs.Access.{told_job_by}
+use Rattle.hardware.specs.declared.Step.{Step}
+use Rattle.hardware.specs.Talk.{Call, Res, end, pick, ◌>>=◌, ◌>>◌}
+use Rattle.std.specs.Prelude.{ℕ, ◌%◌, Bool, List, Err, Ok}
 use Rattle.hardware.specs.declared.Port.{Port}
 use Rattle.words.specs.Link as words
 use Rattle.answers.specs.declared.Copper.{Copper}
 use Rattle.reference.specs.Mdio.{an_link}
 use Rattle.reference.specs.Watch.{polled, poll, poll_down, poll_up, poll_speed, poll_force, poll_forced}
 use Rattle.reference.specs.Watch as reference
-use Rattle.access.specs.Access.{job_talk}
 use Rattle.kr.specs.Sequence.{resume_sequence}
 use Rattle.phy.specs.AnLink.{resume_an_link}
 use Rattle.watch.specs.declared.poll.Poll.{Poll}
 use Rattle.watch.specs.declared.poll.Poll.TheVariants as pollv
 use Rattle.watch.specs.declared.poll.Polled.{Polled}
-use Rattle.watch.specs.declared.poll.Polled.TheVariants as polledv
-use Rattle.watch.specs.declared.poll.PollStep.{PollStep}
-use Rattle.watch.specs.declared.poll.PollStep.TheVariants as pollstep
 use Rattle.watch.specs.declared.store.Watch.{Watch}
 
 -- the Rust's functions, of this Watch
@@ -50,10 +49,9 @@ resume_poll port w pollv.Status got = got_status port w got
 resume_poll port w (pollv.Second status s) got = second_then port w status (resume_an_link port w.phy s got)
 resume_poll port w (pollv.Force status megabits s) got = force_then w status megabits (resume_sequence port s got)
 
-abbrev pub polled_of : Polled → Res reference.Polled
-polled_of (polledv.Ok seen left) = ok (record { copper = seen; forced = left.forced; reforced = left.reforced })
-polled_of (polledv.Err e) = err e
+abbrev pub polled_of : Res Polled → Res reference.Polled
+polled_of (Ok p) = Ok (record { copper = p.copper; forced = p.left.forced; reforced = p.left.reforced })
+polled_of (Err e) = Err e
 
-abbrev pub told_poll : Port → Watch → List ℕ → PollStep → Call reference.Polled
-told_poll port w b (pollstep.Ask job s) = and_then (job_talk port job b) (λ p. resume_poll port w s p.0)
-told_poll port w b (pollstep.Done r) = end (polled_of r)
+abbrev pub told_poll : Port → Watch → List ℕ → Step Job Poll (Res Polled) → Call reference.Polled
+told_poll port w b = told_job_by polled_of port b (λ s got _. resume_poll port w s got)

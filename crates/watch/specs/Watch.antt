@@ -1,13 +1,12 @@
 -- What a Watch is at first, and after a poll. Assumes nothing.
-use Rattle.std.specs.Prelude.{ℕ}
+use Rattle.std.specs.Prelude.{ℕ, None}
 use Rattle.answers.specs.declared.Internal.{Internal}
-use Rattle.answers.specs.declared.MaybeStatus.TheVariants.{Nothing}
 use Rattle.watch.specs.declared.store.Watch.{Watch}
 use Rattle.watch.specs.declared.store.Left.{Left}
 
 -- nothing was forced
 abbrev pub new_watch : ℕ → Internal → Watch
-new_watch phy internal = record { phy = phy; internal = internal; forced = Nothing; reforced = 0 }
+new_watch phy internal = record { phy = phy; internal = internal; forced = None; reforced = 0 }
 
 -- the PHY and its strap stay, the rest is what the poll left
 abbrev pub stored_in : Watch → Left → Watch

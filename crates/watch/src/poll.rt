@@ -1,31 +1,18 @@
 // x552.rs's `Watch::poll`. On each link-up or change of speed the internal link is forced anew to the copper's speed.
 ghost use Rattle.std.specs.Prelude.{◌≡◌, ℕ, List};
-ghost use Rattle.hardware.specs.Told.{word_of};
 ghost use Rattle.kr.specs.Sequence.{told_sequence};
 ghost use Rattle.phy.specs.AnLink.{told_an_link};
 ghost use Rattle.reference.specs.Watch.{is_forced, poll_down};
-ghost use Rattle.watch.specs.Poll.{
-  poll_of,
-  same_of,
-  force_of,
-  speed_of,
-  force_then,
-  second_then,
-  first_then,
-  got_status,
-  resume_poll,
-  told_poll,
-};
+ghost use Rattle.watch.specs.Poll.{poll_of, same_of, force_of, speed_of, force_then, second_then, first_then, got_status, resume_poll, told_poll};
 
 use crate::store::{Left, Watch};
 use access::access::Job;
-use answers::{Copper, Internal, MaybeStatus};
-use hardware::{Error, Port, Word};
-use hostif::token::Flag;
-use kr::sequence::{KrPlace, Sequence, SequenceStep};
-use phy::an_link::{AnLink, AnLinkStep};
+use answers::{Copper, Internal};
+use hardware::{Error, Port, Step};
+use kr::sequence::{KrPlace, Sequence};
+use phy::an_link::AnLink;
 use phy::modify::Register;
-use words::link::{Megabits, copper};
+use words::link::copper;
 
 // The number is 7.c800's low three bits.
 #[derive(Clone, Copy)]
@@ -37,44 +24,39 @@ pub enum Poll {
     Force(u16, u32, Sequence),
 }
 
-// R<Copper>, with what is left in the Watch.
+// The copper link as it was seen, and what is left in the Watch.
 #[derive(Clone, Copy)]
-pub enum Polled {
-    Ok(Copper, Left),
-    Err(Error),
-}
-
-#[derive(Clone, Copy)]
-pub enum PollStep {
-    Ask(Job, Poll),
-    Done(Polled),
+pub struct Polled {
+    pub copper: Copper,
+    pub left: Left,
 }
 
 // Whether the internal link was forced for this status.
 #[tactic(auto, unfolding(reference::specs::Watch::is_forced))]
-fn is_forced(forced: MaybeStatus, status: u16) -> bool
+fn is_forced(forced: Option<u16>, status: u16) -> bool
     ensures { is_forced forced status ≡ result }
 {
     match forced {
-        MaybeStatus::Nothing => false,
-        MaybeStatus::Is(before) => before == status,
+        None => false,
+        Some(before) => before == status,
     }
 }
 
 impl Poll {
     // Down forgets the forced status.
-    fn down(watch: Watch, port: Port) -> PollStep
+    fn down(watch: Watch, port: Port) -> Step<Job, Poll, Result<Polled, Error>>
         ensures { (b : List ℕ) → told_poll port watch b result ≡ poll_down watch.reforced }
     {
         let left = Left {
-            forced: MaybeStatus::Nothing,
+            forced: None,
             reforced: watch.reforced,
         };
-        PollStep::Done(Polled::Ok(Copper::Down, left))
+        let copper = Copper::Down;
+        Step::Done(Ok(Polled { copper, left }))
     }
 
     // The link is up at a speed that it was forced to before, or at none that the internal link carries.
-    fn same(watch: Watch, port: Port, seen: Copper) -> PollStep
+    fn same(watch: Watch, port: Port, seen: Copper) -> Step<Job, Poll, Result<Polled, Error>>
         ensures { (b : List ℕ) → told_poll port watch b result ≡ same_of watch seen }
     {
         let forced = watch.forced;
@@ -82,35 +64,40 @@ impl Poll {
             forced,
             reforced: watch.reforced,
         };
-        PollStep::Done(Polled::Ok(seen, left))
+        Step::Done(Ok(Polled { copper: seen, left }))
     }
 
+    #[tactic(auto, using(hardware::proofs::Laws::then_assoc))]
     fn after_force(
         watch: Watch,
         port: Port,
         status: u16,
         megabits: u32,
-        step: SequenceStep,
-    ) -> PollStep
+        step: Step<Job, Sequence, Result<u32, Error>>,
+    ) -> Step<Job, Poll, Result<Polled, Error>>
         ensures { (b : List ℕ) → told_poll port watch b result ≡ force_then watch status megabits (told_sequence port b step) }
     {
         match step {
-            SequenceStep::Ask(job, s) => PollStep::Ask(job, Poll::Force(status, megabits, s)),
-            SequenceStep::Done(r) => match r {
-                Word::Err(e) => PollStep::Done(Polled::Err(e)),
-                Word::Ok(_) => {
-                    let left = Left {
-                        forced: MaybeStatus::Is(status),
-                        reforced: std::num::wrapping_add_u32(watch.reforced, 1),
-                    };
-                    PollStep::Done(Polled::Ok(Copper::Up { megabits }, left))
-                }
-            },
+            Step::Ask(job, s) => Step::Ask(job, Poll::Force(status, megabits, s)),
+            Step::Done(Err(e)) => Step::Done(Err(e)),
+            Step::Done(Ok(_)) => {
+                let left = Left {
+                    forced: Some(status),
+                    reforced: std::num::wrapping_add_u32(watch.reforced, 1),
+                };
+                let copper = Copper::Up { megabits };
+                Step::Done(Ok(Polled { copper, left }))
+            }
         }
     }
 
-    #[tactic(auto, unfolding(reference::specs::X552::kr_autoneg, reference::specs::X552::ixfi))]
-    fn force(watch: Watch, port: Port, status: u16, megabits: u32) -> PollStep
+    #[tactic(auto, using(hardware::proofs::Laws::then_assoc), unfolding(reference::specs::X552::kr_autoneg, reference::specs::X552::ixfi))]
+    fn force(
+        watch: Watch,
+        port: Port,
+        status: u16,
+        megabits: u32,
+    ) -> Step<Job, Poll, Result<Polled, Error>>
         ensures { (b : List ℕ) → told_poll port watch b result ≡ force_of port watch status megabits }
     {
         let internal = watch.internal;
@@ -127,13 +114,13 @@ impl Poll {
     }
 
     // The one place that decides whether the internal link is forced anew.
-    fn speed(watch: Watch, port: Port, status: u16) -> PollStep
+    fn speed(watch: Watch, port: Port, status: u16) -> Step<Job, Poll, Result<Polled, Error>>
         ensures { (b : List ℕ) → told_poll port watch b result ≡ speed_of port watch status }
     {
         let forced = watch.forced;
         match copper(status as u32) {
-            Megabits::Nothing => Poll::same(watch, port, Copper::Invalid { status }),
-            Megabits::Is(megabits) => {
+            None => Poll::same(watch, port, Copper::Invalid { status }),
+            Some(megabits) => {
                 if is_forced(forced, status) {
                     Poll::same(watch, port, Copper::Up { megabits })
                 } else {
@@ -143,64 +130,81 @@ impl Poll {
         }
     }
 
-    fn after_second(watch: Watch, port: Port, status: u16, step: AnLinkStep) -> PollStep
+    #[tactic(auto, using(hardware::proofs::Laws::then_assoc))]
+    fn after_second(
+        watch: Watch,
+        port: Port,
+        status: u16,
+        step: Step<Job, AnLink, Result<bool, Error>>,
+    ) -> Step<Job, Poll, Result<Polled, Error>>
         ensures { (b : List ℕ) → told_poll port watch b result ≡ second_then port watch status (told_an_link port watch.phy b step) }
     {
         match step {
-            AnLinkStep::Ask(job, s) => PollStep::Ask(job, Poll::Second(status, s)),
-            AnLinkStep::Done(r) => match r {
-                Flag::Err(e) => PollStep::Done(Polled::Err(e)),
-                Flag::Ok(up) => {
-                    if up {
-                        Poll::speed(watch, port, status)
-                    } else {
-                        Poll::down(watch, port)
-                    }
+            Step::Ask(job, s) => Step::Ask(job, Poll::Second(status, s)),
+            Step::Done(Err(e)) => Step::Done(Err(e)),
+            Step::Done(Ok(up)) => {
+                if up {
+                    Poll::speed(watch, port, status)
+                } else {
+                    Poll::down(watch, port)
                 }
-            },
+            }
         }
     }
 
-    fn after_status(watch: Watch, port: Port, got: Word) -> PollStep
-        ensures { (b : List ℕ) → told_poll port watch b result ≡ got_status port watch (word_of got) }
+    fn after_status(
+        watch: Watch,
+        port: Port,
+        got: Result<u32, Error>,
+    ) -> Step<Job, Poll, Result<Polled, Error>>
+        ensures { (b : List ℕ) → told_poll port watch b result ≡ got_status port watch got }
     {
         match got {
-            Word::Err(e) => PollStep::Done(Polled::Err(e)),
-            Word::Ok(v) => {
+            Err(e) => Step::Done(Err(e)),
+            Ok(v) => {
                 let step = AnLink::start(watch.phy, port);
                 Poll::after_second(watch, port, (v % 8) as u16, step)
             }
         }
     }
 
-    fn after_first(watch: Watch, port: Port, step: AnLinkStep) -> PollStep
+    #[tactic(auto, using(hardware::proofs::Laws::then_assoc))]
+    fn after_first(
+        watch: Watch,
+        port: Port,
+        step: Step<Job, AnLink, Result<bool, Error>>,
+    ) -> Step<Job, Poll, Result<Polled, Error>>
         ensures { (b : List ℕ) → told_poll port watch b result ≡ first_then port watch (told_an_link port watch.phy b step) }
     {
         match step {
-            AnLinkStep::Ask(job, s) => PollStep::Ask(job, Poll::First(s)),
-            AnLinkStep::Done(r) => match r {
-                Flag::Err(e) => PollStep::Done(Polled::Err(e)),
-                Flag::Ok(up) => {
-                    if up {
-                        PollStep::Ask(Job::ReadReg(watch.phy, Register::AN, 0xc800), Poll::Status)
-                    } else {
-                        Poll::down(watch, port)
-                    }
+            Step::Ask(job, s) => Step::Ask(job, Poll::First(s)),
+            Step::Done(Err(e)) => Step::Done(Err(e)),
+            Step::Done(Ok(up)) => {
+                if up {
+                    Step::Ask(Job::ReadReg(watch.phy, Register::AN, 0xc800), Poll::Status)
+                } else {
+                    Poll::down(watch, port)
                 }
-            },
+            }
         }
     }
 
     #[tactic(auto, unfolding(reference::specs::Watch::poll))]
-    pub fn start(watch: Watch, port: Port) -> PollStep
+    pub fn start(watch: Watch, port: Port) -> Step<Job, Poll, Result<Polled, Error>>
         ensures { (b : List ℕ) → told_poll port watch b result ≡ poll_of port watch }
     {
         let step = AnLink::start(watch.phy, port);
         Poll::after_first(watch, port, step)
     }
 
-    pub fn next(self, watch: Watch, port: Port, got: Word) -> PollStep
-        ensures { (b : List ℕ) → told_poll port watch b result ≡ resume_poll port watch self (word_of got) }
+    #[tactic(auto, using(hardware::proofs::Laws::then_assoc))]
+    pub fn next(
+        self,
+        watch: Watch,
+        port: Port,
+        got: Result<u32, Error>,
+    ) -> Step<Job, Poll, Result<Polled, Error>>
+        ensures { (b : List ℕ) → told_poll port watch b result ≡ resume_poll port watch self got }
     {
         match self {
             Poll::First(s) => Poll::after_first(watch, port, s.next(watch.phy, port, got)),

@@ -2,21 +2,21 @@
 ghost use Rattle.std.specs.Prelude.{◌≡◌};
 ghost use Rattle.watch.specs.Watch.{new_watch, stored_in};
 
-use answers::{Internal, MaybeStatus};
+use answers::Internal;
 
 // x552.rs's Watch: follows the X557's copper link.
 #[derive(Clone, Copy)]
 pub struct Watch {
     pub phy: u32,
     pub internal: Internal,
-    pub forced: MaybeStatus,
+    pub forced: Option<u16>,
     pub reforced: u32,
 }
 
 // What a poll leaves in the Watch: the status that the internal link was forced for, and how often it was.
 #[derive(Clone, Copy)]
 pub struct Left {
-    pub forced: MaybeStatus,
+    pub forced: Option<u16>,
     pub reforced: u32,
 }
 
@@ -28,7 +28,7 @@ impl Watch {
         Watch {
             phy,
             internal,
-            forced: MaybeStatus::Nothing,
+            forced: None,
             reforced: 0,
         }
     }

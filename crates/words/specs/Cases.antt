@@ -1,14 +1,10 @@
 -- The proved cases of document 01: what the definitions give, and what the document says
-use Rattle.std.specs.Prelude.{ℕ, Bool, true, false, List, [], ◌∷◌, ◌++◌}
-use Rattle.hardware.specs.Talk.{Res, ok, err}
+use Rattle.std.specs.Prelude.{ℕ, Bool, true, false, List, [], ◌∷◌, ◌++◌, Option, None, Some, Ok, Err}
+use Rattle.hardware.specs.Talk.{Res}
 use Rattle.hardware.specs.Numbers.{number}
 use Rattle.hardware.specs.Refusal.{refusal}
 use Rattle.hardware.specs.declared.Family.TheVariants.{X552, X553}
 use Rattle.hardware.specs.declared.Port.{Port}
-use Rattle.words.specs.declared.phy.PhyId.{PhyId}
-use Rattle.words.specs.declared.phy.PhyId.TheVariants as phyid
-use Rattle.words.specs.declared.link.Megabits.{Megabits}
-use Rattle.words.specs.declared.link.Megabits.TheVariants as megabits
 use Rattle.words.specs.declared.link.Link.{Link}
 use Rattle.words.specs.declared.link.Link.TheVariants as link
 use Rattle.words.specs.Semaphore.{software, firmware, flash}
@@ -23,18 +19,14 @@ abbrev truth : Bool → List ℕ
 truth true = 1 ∷ []
 truth false = 0 ∷ []
 
-abbrev phy_words : PhyId → List ℕ
-phy_words phyid.Nothing = 0 ∷ []
-phy_words (phyid.Id id) = 1 ∷ id ∷ []
-
-abbrev speed_words : Megabits → List ℕ
-speed_words megabits.Nothing = 0 ∷ []
-speed_words (megabits.Is m) = 1 ∷ m ∷ []
+abbrev maybe_words : Option ℕ → List ℕ
+maybe_words None = 0 ∷ []
+maybe_words (Some n) = 1 ∷ n ∷ []
 
 -- a link that is down has no words
 abbrev link_words : Link → List ℕ
 link_words link.Down = []
-link_words (link.Up m) = speed_words m
+link_words (link.Up m) = maybe_words m
 
 -- of both families
 abbrev links_words : ℕ → List ℕ
@@ -42,8 +34,8 @@ links_words links = link_words (link_of X552 links) ++ link_words (link_of X553 
 
 -- 0 for a call that is taken, else the number that refuses it
 abbrev refusal_number : Res (Unit {0}) → ℕ
-refusal_number (ok _) = 0
-refusal_number (err e) = number e
+refusal_number (Ok _) = 0
+refusal_number (Err e) = number e
 
 abbrev copper_port : Port
 copper_port = record { family = X552; device = 0x15ad; lan = 0 }
@@ -64,8 +56,8 @@ cases =
     ∷ case 4 (krm 1 0x420c ∷ []) (0x820c ∷ [])
     ∷ case 5 (cycle 3 3 7 0xc800 true ∷ []) (0x4c67c800 ∷ [])
     ∷ case 6 (refusal_number (refusal copper_port 31 0 0) ∷ refusal_number (refusal copper_port 32 0 0) ∷ []) (0 ∷ 22 ∷ [])
-    ∷ case 7 (phy_words (phy_id 0x0154 0xb242) ++ phy_words (phy_id 0 0xb242) ++ phy_words (phy_id 0xffff 0xb242)) (1 ∷ 0x0154b240 ∷ 0 ∷ 0 ∷ [])
-    ∷ case 8 (speed_words (copper 7) ++ speed_words (copper 5) ++ speed_words (copper 3)) (1 ∷ 10000 ∷ 1 ∷ 1000 ∷ 0 ∷ [])
+    ∷ case 7 (maybe_words (phy_id 0x0154 0xb242) ++ maybe_words (phy_id 0 0xb242) ++ maybe_words (phy_id 0xffff 0xb242)) (1 ∷ 0x0154b240 ∷ 0 ∷ 0 ∷ [])
+    ∷ case 8 (maybe_words (copper 7) ++ maybe_words (copper 5) ++ maybe_words (copper 3)) (1 ∷ 10000 ∷ 1 ∷ 1000 ∷ 0 ∷ [])
     ∷ case 9 (nvm_address 0x2c ∷ nvm_address 0xffff ∷ []) (0x58000000 ∷ 0xfeff0100 ∷ [])
     ∷ case 10 (truth (fits 4 2) ++ truth (fits 5 2)) (1 ∷ 0 ∷ [])
     ∷ case 11 (links_words 0x60000000 ++ links_words 0x78000000) (1 ∷ 1000 ∷ 1 ∷ 1000 ∷ 1 ∷ 2500 ∷ 1 ∷ 2500 ∷ [])

@@ -5,15 +5,9 @@ ghost use Rattle.words.specs.Link.{link_of, copper};
 use hardware::Family;
 
 #[derive(Clone, Copy)]
-pub enum Megabits {
-    Nothing,
-    Is(u32),
-}
-
-#[derive(Clone, Copy)]
 pub enum Link {
     Down,
-    Up { megabits: Megabits },
+    Up { megabits: Option<u32> },
 }
 
 impl Link {
@@ -22,6 +16,7 @@ impl Link {
     // With bits 29:28 both set: 2500 megabits, not 10000.
     pub const NON_STD: u32 = 0x0800_0000;
 
+    // Of two arguments, so no From.
     #[tactic(auto, using(crate::proofs::Bits::is_clear_lem, crate::proofs::Bits::is_set, crate::proofs::Theorems::Link::speed_rust), unfolding(crate::specs::Link::link_of))]
     pub fn of(family: Family, links: u32) -> Link
         ensures { link_of family links ≡ result }
@@ -31,16 +26,16 @@ impl Link {
         }
         let megabits = match (links >> 28) & 3 {
             0 => match family {
-                Family::X552 => Megabits::Nothing,
-                Family::X553 => Megabits::Is(10),
+                Family::X552 => None,
+                Family::X553 => Some(10),
             },
-            1 => Megabits::Is(100),
-            2 => Megabits::Is(1000),
+            1 => Some(100),
+            2 => Some(1000),
             _ => {
                 if links & Link::NON_STD == 0 {
-                    Megabits::Is(10000)
+                    Some(10000)
                 } else {
-                    Megabits::Is(2500)
+                    Some(2500)
                 }
             }
         };
@@ -48,14 +43,14 @@ impl Link {
     }
 }
 
-// The copper side's speed. `Nothing` is the Rust's `Invalid`.
+// The copper side's speed. `None` is the Rust's `Invalid`.
 #[tactic(auto, using(crate::proofs::Theorems::Link::status_rust), unfolding(crate::specs::Link::copper))]
-pub fn copper(status: u32) -> Megabits
+pub fn copper(status: u32) -> Option<u32>
     ensures { copper status ≡ result }
 {
     match status & 7 {
-        7 => Megabits::Is(10000),
-        5 => Megabits::Is(1000),
-        _ => Megabits::Nothing,
+        7 => Some(10000),
+        5 => Some(1000),
+        _ => None,
     }
 }

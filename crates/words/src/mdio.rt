@@ -19,22 +19,26 @@ impl Command {
 
     // mdio.rs `COMMAND`, which starts the cycle.
     pub const GO: u32 = 0x4000_0000;
+}
 
-    pub fn word(self) -> u32
-        ensures { command self ≡ result }
-    {
-        let register = self.register as u32;
-        let device = (self.device % 32) as u32;
-        let phy = (self.phy % 32) as u32;
-        let operation = (self.operation % 4) as u32;
+impl From<Command> for u32 {
+    ghost from_gives = { λ c word. command c ≡ word };
+
+    fn from(c: Command) -> u32 {
+        let register = c.register as u32;
+        let device = (c.device % 32) as u32;
+        let phy = (c.phy % 32) as u32;
+        let operation = (c.operation % 4) as u32;
         let word = register | device << 16 | phy << 21 | operation << 26;
-        if self.go { word | Command::GO } else { word }
+        if c.go { word | Command::GO } else { word }
     }
+}
+
+impl From<u32> for Command {
+    ghost from_gives = { λ word c. fields word ≡ c };
 
     #[tactic(auto, using(crate::proofs::Bits::bit_digit), unfolding(crate::specs::Mdio::fields))]
-    pub fn of(word: u32) -> Command
-        ensures { fields word ≡ result }
-    {
+    fn from(word: u32) -> Command {
         Command {
             register: (word % 0x1_0000) as u16,
             device: ((word >> 16) % 32) as u8,

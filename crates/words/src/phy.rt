@@ -2,22 +2,13 @@
 ghost use Rattle.std.specs.Prelude.{◌≡◌};
 ghost use Rattle.words.specs.Phy.{phy_id};
 
-#[derive(Clone, Copy)]
-pub enum PhyId {
-    Nothing,
-    Id(u32),
-}
-
 // What `probe` makes of registers 2 and 3, each in the low half of a word.
 #[tactic(auto, using(crate::proofs::Theorems::Phy::identifier_rust), unfolding(crate::specs::Phy::phy_id))]
-pub fn phy_id(high: u32, low: u32) -> PhyId
+pub fn phy_id(high: u32, low: u32) -> Option<u32>
     ensures { phy_id high low ≡ result }
 {
-    if high == 0 {
-        return PhyId::Nothing;
+    if high == 0 || high == 0xffff {
+        return None;
     }
-    if high == 0xffff {
-        return PhyId::Nothing;
-    }
-    PhyId::Id(high << 16 | low & 0xfff0)
+    Some(high << 16 | low & 0xfff0)
 }

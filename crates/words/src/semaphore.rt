@@ -23,12 +23,14 @@ impl Bits {
 
     // I2C0 and I2C1.
     pub const I2C: u32 = 0x1800;
+}
 
-    // sync.rs `bits`, of the X552 and the X553.
+// sync.rs `bits`, of the X552 and the X553.
+impl From<u32> for Bits {
+    ghost from_gives = { λ mask b. bits mask ≡ b };
+
     #[tactic(auto, using(crate::proofs::Theorems::Semaphore::software_rust, crate::proofs::Theorems::Semaphore::firmware_rust, crate::proofs::Theorems::Semaphore::flash_rust), unfolding(crate::specs::Semaphore::bits))]
-    pub fn of(mask: u32) -> Bits
-        ensures { bits mask ≡ result }
-    {
+    fn from(mask: u32) -> Bits {
         let i2c = mask & Bits::I2C;
         let sw = mask & (0xf | Bits::SW_MNG) | i2c;
         let fw = (mask & 0xf) << 5 | i2c << 2;

@@ -1,7 +1,7 @@
 -- `copper_link` begins with the one read of `abilities`
+use Rattle.hardware.specs.Talk.{and_then, return}
 use mathlib.Core.List.{[]}
 use mathlib.Core.Path.{◌≡◌, sym, ◌∙◌}
-use Rattle.hardware.specs.Talk.{and_then, return}
 use Rattle.hardware.specs.Block.{keep}
 use Rattle.hardware.specs.declared.Port.{Port}
 use Rattle.hardware.proofs.Laws.{then_assoc}

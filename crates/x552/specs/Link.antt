@@ -1,27 +1,24 @@
 -- What a suspended `copper_link` still says, from what its job gives
-use Rattle.std.specs.Prelude.{ℕ, Bool, List}
-use Rattle.hardware.specs.Talk.{Call, Res, ok, err, end, and_then, pick, is_clear, ◌>>=◌, ◌>>◌, read, return}
+use Rattle.access.specs.declared.access.Job.{Job}
+use Rattle.access.specs.Access.{told_job}
+use Rattle.hardware.specs.declared.Step.{Step}
+use Rattle.hardware.specs.Talk.{Call, Res, end, pick, is_clear, ◌>>=◌, ◌>>◌, read, return}
+use Rattle.std.specs.Prelude.{ℕ, Bool, List, None}
 use Rattle.hardware.specs.declared.Port.{Port}
 use Rattle.answers.specs.declared.CopperSetup.{CopperSetup}
 use Rattle.answers.specs.declared.Speeds.{Speeds}
 use Rattle.reference.specs.Mdio.{an_link, speeds_of}
 use Rattle.reference.specs.X552.{without100, copper_advertise, copper_times, copper_able}
-use Rattle.access.specs.Access.{job_talk}
 use Rattle.kr.specs.Sequence.{resume_sequence}
 use Rattle.phy.specs.Advertise.{resume_advertise}
 use Rattle.phy.specs.AnLink.{resume_an_link}
 use Rattle.phy.specs.declared.advertise.Advertised.{Advertised}
-use Rattle.phy.specs.declared.advertise.MaybeFlag.TheVariants as maybeflag
 use Rattle.x552.specs.declared.link.Copper.{Copper}
 use Rattle.x552.specs.declared.link.CopperLink.{CopperLink}
 use Rattle.x552.specs.declared.link.CopperLink.TheVariants as link
-use Rattle.x552.specs.declared.link.Linked.{Linked}
-use Rattle.x552.specs.declared.link.Linked.TheVariants as linked
-use Rattle.x552.specs.declared.link.LinkStep.{LinkStep}
-use Rattle.x552.specs.declared.link.LinkStep.TheVariants as linkstep
 
 abbrev pub asked_of : Copper → Speeds → Advertised
-asked_of c s = record { phy = c.x557.phy; speeds = s; nbase = maybeflag.Nothing; veto = c.veto }
+asked_of c s = record { phy = c.x557.phy; speeds = s; nbase = None; veto = c.veto }
 
 -- the Rust's functions, of these arguments
 abbrev pub advertise_of : Port → Copper → Speeds → Call CopperSetup
@@ -60,10 +57,5 @@ resume_link port c (link.Links s n) got = got_links port c s n got
 resume_link port c (link.Linking s n a) got = linking_then port c s n (resume_an_link port c.x557.phy a got)
 resume_link port c (link.Advertise s a) got = advertise_then c s (resume_advertise port (asked_of c s) a got)
 
-abbrev pub linked_of : Linked → Res CopperSetup
-linked_of (linked.Ok s) = ok s
-linked_of (linked.Err e) = err e
-
-abbrev pub told_link : Port → Copper → List ℕ → LinkStep → Call CopperSetup
-told_link port c b (linkstep.Ask job s) = and_then (job_talk port job b) (λ p. resume_link port c s p.0)
-told_link port c b (linkstep.Done r) = end (linked_of r)
+abbrev pub told_link : Port → Copper → List ℕ → Step Job CopperLink (Res CopperSetup) → Call CopperSetup
+told_link port c b = told_job port b (λ s got _. resume_link port c s got)

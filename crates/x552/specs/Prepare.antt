@@ -1,12 +1,12 @@
 -- What a suspended `prepare_copper` still says, from what its job gives
-use Rattle.std.specs.Prelude.{ℕ, ◌-◌, ◌/◌, ◌%◌, ◌^◌, Bool, true, false, List}
-use Rattle.hardware.specs.Talk.{Call, Res, ok, err, end, and_then, ◌>>=◌, ◌>>◌, read, return}
+use Rattle.access.specs.declared.access.Job.{Job}
+use Rattle.access.specs.Access.{told_job}
+use Rattle.hardware.specs.declared.Step.{Step}
+use Rattle.hardware.specs.Talk.{Call, Res, end, ◌>>=◌, ◌>>◌, read, return}
+use Rattle.std.specs.Prelude.{ℕ, ◌-◌, ◌/◌, ◌%◌, ◌^◌, Bool, true, false, List, Option}
 use Rattle.hardware.specs.declared.Port.{Port}
-use Rattle.words.specs.declared.phy.PhyId.{PhyId}
-use Rattle.answers.specs.declared.Scanned.{Scanned}
 use Rattle.answers.specs.declared.X557.{X557}
 use Rattle.reference.specs.X552.{prepared_copper, prepare_reset, prepare_alarms, prepare_found, prepare_probed, prepare_scanned, prepare_sel}
-use Rattle.access.specs.Access.{job_talk}
 use Rattle.phy.specs.Clock.{resume_clock}
 use Rattle.phy.specs.Modify.{resume_modify}
 use Rattle.phy.specs.Probe.{resume_probe}
@@ -16,10 +16,6 @@ use Rattle.phy.specs.declared.modify.Register.{Register}
 use Rattle.x552.specs.declared.prepare.Phy.{Phy}
 use Rattle.x552.specs.declared.prepare.PrepareCopper.{PrepareCopper}
 use Rattle.x552.specs.declared.prepare.PrepareCopper.TheVariants as prepare
-use Rattle.x552.specs.declared.prepare.Prepared.{Prepared}
-use Rattle.x552.specs.declared.prepare.Prepared.TheVariants as prepared
-use Rattle.x552.specs.declared.prepare.PrepareStep.{PrepareStep}
-use Rattle.x552.specs.declared.prepare.PrepareStep.TheVariants as preparestep
 
 -- the PHY that NW_MNG_IF_SEL names
 abbrev pub sel_phy : ℕ → ℕ
@@ -45,10 +41,10 @@ found_then port veto f = prepare_found port veto f.phy f.id f.sel
 abbrev pub clock_then : Port → Bool → Call (Unit {0}) → Call X557
 clock_then port veto t = t >> (read 0x11178 >>= λ sel. prepare_sel port veto sel)
 
-abbrev pub probe_then : Port → Bool → ℕ → Call PhyId → Call X557
+abbrev pub probe_then : Port → Bool → ℕ → Call (Option ℕ) → Call X557
 probe_then port veto sel t = t >>= prepare_probed port veto sel (sel_phy sel)
 
-abbrev pub scan_then : Port → Bool → ℕ → Call Scanned → Call X557
+abbrev pub scan_then : Port → Bool → ℕ → Call (Option (ℕ × ℕ)) → Call X557
 scan_then port veto sel t = t >>= prepare_scanned port veto sel
 
 abbrev pub stall_then : Port → Bool → Phy → Call ℕ → Call X557
@@ -72,10 +68,5 @@ resume_prepare port veto (prepare.Alarms f) got = got_alarms port veto f got
 resume_prepare port veto (prepare.Unstall f s) got = stall_then port veto f (resume_modify port (stall_of f) s got)
 resume_prepare port veto (prepare.Reset f unstalled s) got = done_then port f unstalled (resume_reset port f.phy true s got)
 
-abbrev pub prepared_to : Prepared → Res X557
-prepared_to (prepared.Ok x) = ok x
-prepared_to (prepared.Err e) = err e
-
-abbrev pub told_prepare : Port → Bool → List ℕ → PrepareStep → Call X557
-told_prepare port veto b (preparestep.Ask job s) = and_then (job_talk port job b) (λ p. resume_prepare port veto s p.0)
-told_prepare port veto b (preparestep.Done r) = end (prepared_to r)
+abbrev pub told_prepare : Port → Bool → List ℕ → Step Job PrepareCopper (Res X557) → Call X557
+told_prepare port veto b = told_job port b (λ s got _. resume_prepare port veto s got)

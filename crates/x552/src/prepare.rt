@@ -1,39 +1,21 @@
 // x552.rs's `prepare_copper`: the X557 found, let go on where it stalls, and reset unless there is a veto.
 ghost use Rattle.std.specs.Prelude.{ℕ, true, false, List, ◌≡◌};
-ghost use Rattle.hardware.specs.Told.{word_of};
 ghost use Rattle.phy.specs.Clock.{told_clock};
 ghost use Rattle.phy.specs.Modify.{told_modify};
 ghost use Rattle.phy.specs.Probe.{told_probe};
 ghost use Rattle.phy.specs.Reset.{told_reset};
 ghost use Rattle.phy.specs.Scan.{told_scan};
 ghost use Rattle.reference.specs.X552.{internal_of, prepare_copper, prepare_sel};
-ghost use Rattle.x552.specs.Prepare.{
-  sel_phy,
-  stall_of,
-  prepared_of,
-  found_then,
-  alarms_then,
-  reset_then,
-  clock_then,
-  probe_then,
-  scan_then,
-  stall_then,
-  done_then,
-  got_sel,
-  got_alarms,
-  resume_prepare,
-  told_prepare,
-};
+ghost use Rattle.x552.specs.Prepare.{sel_phy, stall_of, prepared_of, found_then, alarms_then, reset_then, clock_then, probe_then, scan_then, stall_then, done_then, got_sel, got_alarms, resume_prepare, told_prepare};
 
 use access::access::Job;
-use answers::{Internal, Scanned, X557};
-use hardware::{Error, Family, Port, Unit, Word};
-use phy::clock::{Clock, ClockStep};
-use phy::modify::{Modify, ModifyStep, Register};
-use phy::probe::{Probe, ProbeStep, Probed};
-use phy::reset::{Reset, ResetStep};
-use phy::scan::{Scan, ScanStep, Searched};
-use words::phy::PhyId;
+use answers::{Internal, X557};
+use hardware::{Error, Family, Port, Step};
+use phy::clock::Clock;
+use phy::modify::{Modify, Register};
+use phy::probe::Probe;
+use phy::reset::Reset;
+use phy::scan::Scan;
 
 // The PHY that was found, and NW_MNG_IF_SEL.
 #[derive(Clone, Copy)]
@@ -56,19 +38,6 @@ pub enum PrepareCopper {
     Unstall(Phy, Modify),
     // whether it was unstalled
     Reset(Phy, bool, Reset),
-}
-
-// R<Prepared>
-#[derive(Clone, Copy)]
-pub enum Prepared {
-    Ok(X557),
-    Err(Error),
-}
-
-#[derive(Clone, Copy)]
-pub enum PrepareStep {
-    Ask(Job, PrepareCopper),
-    Done(Prepared),
 }
 
 impl Phy {
@@ -128,52 +97,62 @@ impl Phy {
 }
 
 impl PrepareCopper {
+    #[tactic(auto, using(hardware::proofs::Laws::then_assoc))]
     fn after_reset(
         veto: bool,
         port: Port,
         found: Phy,
         unstalled: bool,
-        step: ResetStep,
-    ) -> PrepareStep
+        step: Step<Job, Reset, Result<(), Error>>,
+    ) -> Step<Job, PrepareCopper, Result<X557, Error>>
         ensures { (b : List ℕ) → told_prepare port veto b result ≡ done_then port found unstalled (told_reset port found.phy true b step) }
     {
         match step {
-            ResetStep::Ask(job, s) => PrepareStep::Ask(
-                job,
-                PrepareCopper::Reset(found, unstalled, s),
-            ),
-            ResetStep::Done(r) => match r {
-                Unit::Err(e) => PrepareStep::Done(Prepared::Err(e)),
-                Unit::Ok => PrepareStep::Done(Prepared::Ok(found.prepared(port, unstalled, true))),
-            },
+            Step::Ask(job, s) => Step::Ask(job, PrepareCopper::Reset(found, unstalled, s)),
+            Step::Done(Err(e)) => Step::Done(Err(e)),
+            Step::Done(Ok(())) => Step::Done(Ok(found.prepared(port, unstalled, true))),
         }
     }
 
     // The reset, unless there is a veto.
-    fn reset(veto: bool, port: Port, found: Phy, unstalled: bool) -> PrepareStep
+    fn reset(
+        veto: bool,
+        port: Port,
+        found: Phy,
+        unstalled: bool,
+    ) -> Step<Job, PrepareCopper, Result<X557, Error>>
         ensures { (b : List ℕ) → told_prepare port veto b result ≡ reset_then port veto found unstalled }
     {
         if veto {
-            return PrepareStep::Done(Prepared::Ok(found.prepared(port, unstalled, false)));
+            return Step::Done(Ok(found.prepared(port, unstalled, false)));
         }
         let step = Reset::start(found.phy as u32, true, port);
         PrepareCopper::after_reset(veto, port, found, unstalled, step)
     }
 
-    fn after_unstall(veto: bool, port: Port, found: Phy, step: ModifyStep) -> PrepareStep
+    #[tactic(auto, using(hardware::proofs::Laws::then_assoc))]
+    fn after_unstall(
+        veto: bool,
+        port: Port,
+        found: Phy,
+        step: Step<Job, Modify, Result<u32, Error>>,
+    ) -> Step<Job, PrepareCopper, Result<X557, Error>>
         ensures { (b : List ℕ) → told_prepare port veto b result ≡ stall_then port veto found (told_modify port (stall_of found) b step) }
     {
         match step {
-            ModifyStep::Ask(job, s) => PrepareStep::Ask(job, PrepareCopper::Unstall(found, s)),
-            ModifyStep::Done(r) => match r {
-                Word::Err(e) => PrepareStep::Done(Prepared::Err(e)),
-                Word::Ok(_) => PrepareCopper::reset(veto, port, found, true),
-            },
+            Step::Ask(job, s) => Step::Ask(job, PrepareCopper::Unstall(found, s)),
+            Step::Done(Err(e)) => Step::Done(Err(e)),
+            Step::Done(Ok(_)) => PrepareCopper::reset(veto, port, found, true),
         }
     }
 
     // At the first start since power-on the PHY's firmware waits to be let go on.
-    fn alarms(veto: bool, port: Port, found: Phy, alarms: u32) -> PrepareStep
+    fn alarms(
+        veto: bool,
+        port: Port,
+        found: Phy,
+        alarms: u32,
+    ) -> Step<Job, PrepareCopper, Result<X557, Error>>
         ensures { (b : List ℕ) → told_prepare port veto b result ≡ alarms_then port veto found alarms }
     {
         if alarms & 3 == 0 {
@@ -183,59 +162,73 @@ impl PrepareCopper {
         PrepareCopper::after_unstall(veto, port, found, step)
     }
 
-    fn after_alarms(veto: bool, port: Port, found: Phy, got: Word) -> PrepareStep
-        ensures { (b : List ℕ) → told_prepare port veto b result ≡ got_alarms port veto found (word_of got) }
+    fn after_alarms(
+        veto: bool,
+        port: Port,
+        found: Phy,
+        got: Result<u32, Error>,
+    ) -> Step<Job, PrepareCopper, Result<X557, Error>>
+        ensures { (b : List ℕ) → told_prepare port veto b result ≡ got_alarms port veto found got }
     {
         match got {
-            Word::Err(e) => PrepareStep::Done(Prepared::Err(e)),
-            Word::Ok(v) => PrepareCopper::alarms(veto, port, found, v),
+            Err(e) => Step::Done(Err(e)),
+            Ok(v) => PrepareCopper::alarms(veto, port, found, v),
         }
     }
 
-    fn found(veto: bool, port: Port, found: Phy) -> PrepareStep
+    #[tactic(auto, using(hardware::proofs::Laws::then_assoc))]
+    fn found(veto: bool, port: Port, found: Phy) -> Step<Job, PrepareCopper, Result<X557, Error>>
         ensures { (b : List ℕ) → told_prepare port veto b result ≡ found_then port veto found }
     {
-        PrepareStep::Ask(
+        Step::Ask(
             Job::ReadReg(found.phy as u32, Register::PMA, 0xcc02),
             PrepareCopper::Alarms(found),
         )
     }
 
-    fn after_probe(veto: bool, port: Port, sel: u32, step: ProbeStep) -> PrepareStep
+    #[tactic(auto, using(hardware::proofs::Laws::then_assoc))]
+    fn after_probe(
+        veto: bool,
+        port: Port,
+        sel: u32,
+        step: Step<Job, Probe, Result<Option<u32>, Error>>,
+    ) -> Step<Job, PrepareCopper, Result<X557, Error>>
         ensures { (b : List ℕ) → told_prepare port veto b result ≡ probe_then port veto sel (told_probe port (sel_phy sel) b step) }
     {
         match step {
-            ProbeStep::Ask(job, s) => PrepareStep::Ask(job, PrepareCopper::Probe(sel, s)),
-            ProbeStep::Done(r) => match r {
-                Probed::Err(e) => PrepareStep::Done(Prepared::Err(e)),
-                Probed::Ok(id) => match id {
-                    PhyId::Nothing => PrepareStep::Done(Prepared::Err(Error::NoPhy)),
-                    PhyId::Id(id) => {
-                        let phy = Phy::of(sel);
-                        PrepareCopper::found(veto, port, Phy { phy, id, sel })
-                    }
-                },
-            },
+            Step::Ask(job, s) => Step::Ask(job, PrepareCopper::Probe(sel, s)),
+            Step::Done(Err(e)) => Step::Done(Err(e)),
+            Step::Done(Ok(None)) => Step::Done(Err(Error::NoPhy)),
+            Step::Done(Ok(Some(id))) => {
+                let phy = Phy::of(sel);
+                PrepareCopper::found(veto, port, Phy { phy, id, sel })
+            }
         }
     }
 
-    fn after_scan(veto: bool, port: Port, sel: u32, step: ScanStep) -> PrepareStep
+    #[tactic(auto, using(hardware::proofs::Laws::then_assoc))]
+    fn after_scan(
+        veto: bool,
+        port: Port,
+        sel: u32,
+        step: Step<Job, Scan, Result<Option<(u8, u32)>, Error>>,
+    ) -> Step<Job, PrepareCopper, Result<X557, Error>>
         ensures { (b : List ℕ) → told_prepare port veto b result ≡ scan_then port veto sel (told_scan port b step) }
     {
         match step {
-            ScanStep::Ask(job, s) => PrepareStep::Ask(job, PrepareCopper::Scan(sel, s)),
-            ScanStep::Done(r) => match r {
-                Searched::Err(e) => PrepareStep::Done(Prepared::Err(e)),
-                Searched::Ok(at) => match at {
-                    Scanned::Nothing => PrepareStep::Done(Prepared::Err(Error::NoPhy)),
-                    Scanned::At(phy, id) => PrepareCopper::found(veto, port, Phy { phy, id, sel }),
-                },
-            },
+            Step::Ask(job, s) => Step::Ask(job, PrepareCopper::Scan(sel, s)),
+            Step::Done(Err(e)) => Step::Done(Err(e)),
+            Step::Done(Ok(None)) => Step::Done(Err(Error::NoPhy)),
+            Step::Done(Ok(Some((phy, id)))) => PrepareCopper::found(
+                veto,
+                port,
+                Phy { phy, id, sel },
+            ),
         }
     }
 
     // The PHY that NW_MNG_IF_SEL names is the only one tried; where it names none, all are.
-    fn sel(veto: bool, port: Port, sel: u32) -> PrepareStep
+    fn sel(veto: bool, port: Port, sel: u32) -> Step<Job, PrepareCopper, Result<X557, Error>>
         ensures { (b : List ℕ) → told_prepare port veto b result ≡ prepare_sel port veto sel }
     {
         if sel == 0 {
@@ -246,36 +239,49 @@ impl PrepareCopper {
         PrepareCopper::after_probe(veto, port, sel, step)
     }
 
-    fn after_sel(veto: bool, port: Port, got: Word) -> PrepareStep
-        ensures { (b : List ℕ) → told_prepare port veto b result ≡ got_sel port veto (word_of got) }
+    fn after_sel(
+        veto: bool,
+        port: Port,
+        got: Result<u32, Error>,
+    ) -> Step<Job, PrepareCopper, Result<X557, Error>>
+        ensures { (b : List ℕ) → told_prepare port veto b result ≡ got_sel port veto got }
     {
         match got {
-            Word::Err(e) => PrepareStep::Done(Prepared::Err(e)),
-            Word::Ok(sel) => PrepareCopper::sel(veto, port, sel),
+            Err(e) => Step::Done(Err(e)),
+            Ok(sel) => PrepareCopper::sel(veto, port, sel),
         }
     }
 
-    fn after_clock(veto: bool, port: Port, step: ClockStep) -> PrepareStep
+    #[tactic(auto, using(hardware::proofs::Laws::then_assoc))]
+    fn after_clock(
+        veto: bool,
+        port: Port,
+        step: Step<Job, Clock, Result<(), Error>>,
+    ) -> Step<Job, PrepareCopper, Result<X557, Error>>
         ensures { (b : List ℕ) → told_prepare port veto b result ≡ clock_then port veto (told_clock port false b step) }
     {
         match step {
-            ClockStep::Ask(job, s) => PrepareStep::Ask(job, PrepareCopper::Clock(s)),
-            ClockStep::Done(r) => match r {
-                Unit::Err(e) => PrepareStep::Done(Prepared::Err(e)),
-                Unit::Ok => PrepareStep::Ask(Job::Read(Phy::NW_MNG_IF_SEL), PrepareCopper::Sel),
-            },
+            Step::Ask(job, s) => Step::Ask(job, PrepareCopper::Clock(s)),
+            Step::Done(Err(e)) => Step::Done(Err(e)),
+            Step::Done(Ok(())) => Step::Ask(Job::Read(Phy::NW_MNG_IF_SEL), PrepareCopper::Sel),
         }
     }
 
     #[tactic(auto, unfolding(reference::specs::X552::prepare_copper))]
-    pub fn start(veto: bool, port: Port) -> PrepareStep
+    pub fn start(veto: bool, port: Port) -> Step<Job, PrepareCopper, Result<X557, Error>>
         ensures { (b : List ℕ) → told_prepare port veto b result ≡ prepare_copper port veto }
     {
         PrepareCopper::after_clock(veto, port, Clock::start(false, port))
     }
 
-    pub fn next(self, veto: bool, port: Port, got: Word) -> PrepareStep
-        ensures { (b : List ℕ) → told_prepare port veto b result ≡ resume_prepare port veto self (word_of got) }
+    #[tactic(auto, using(hardware::proofs::Laws::then_assoc))]
+    pub fn next(
+        self,
+        veto: bool,
+        port: Port,
+        got: Result<u32, Error>,
+    ) -> Step<Job, PrepareCopper, Result<X557, Error>>
+        ensures { (b : List ℕ) → told_prepare port veto b result ≡ resume_prepare port veto self got }
     {
         match self {
             PrepareCopper::Clock(s) => PrepareCopper::after_clock(

@@ -1,9 +1,9 @@
 -- SETUP_LINK's answer by itself, in `prepare_firmware` and in `setup`
+use Rattle.hardware.specs.Talk.{Call, ◌>>=◌, ◌>>◌, return}
 use Prim.Native.Nat.{ℕ}
 use mathlib.Core.Bool.{Bool, true}
 use mathlib.Core.Path.{◌≡◌, ap, sym, fun_ext}
 use lib.Dec.{eqb}
-use Rattle.hardware.specs.Talk.{Call, ◌>>=◌, ◌>>◌, return}
 use Rattle.hardware.specs.declared.Port.{Port}
 use Rattle.answers.specs.declared.FirmwarePhy.{FirmwarePhy}
 use Rattle.answers.specs.declared.Setup553.{Setup553}

@@ -1,15 +1,16 @@
 -- What a suspended `setup` of a firmware PHY still says, from what its job gives
-use Rattle.std.specs.Prelude.{ℕ, Bool, false, true, List, eqb}
-use Rattle.hardware.specs.Talk.{Call, Res, ok, err, end, and_then, pick, is_clear, ◌>>=◌}
+use Rattle.access.specs.declared.access.Job.{Job}
+use Rattle.access.specs.Access.{told_job_by}
+use Rattle.hardware.specs.declared.Step.{Step}
+use Rattle.hardware.specs.Talk.{Call, Res, end, pick, is_clear, ◌>>=◌}
+use Rattle.std.specs.Prelude.{ℕ, Bool, false, true, List, eqb, Err, None, Ok, Option, Some}
 use Rattle.hardware.specs.declared.Port.{Port}
 use Rattle.answers.specs.declared.FirmwarePhy.{FirmwarePhy}
-use Rattle.answers.specs.declared.MaybeWord.{MaybeWord}
-use Rattle.answers.specs.declared.MaybeWord.TheVariants as maybe
+use Rattle.answers.specs.declared.FirmwareSetup.{FirmwareSetup}
 use Rattle.answers.specs.declared.Setup553.{Setup553}
 use Rattle.answers.specs.declared.Setup553.TheVariants as setup
 use Rattle.answers.specs.declared.Words.{Words}
 use Rattle.reference.specs.X553.{firmware, firmware_set, firmware_down, firmware_linked, setup_firmware, setup_prepared}
-use Rattle.access.specs.Access.{job_talk}
 use Rattle.activity.specs.Activity.{activity_of, resume_activity}
 use Rattle.activity.specs.declared.Asked.{Asked}
 use Rattle.x553.specs.Prepare.{asked_with, no_data, link_of}
@@ -17,10 +18,6 @@ use Rattle.x553.specs.SgmiiAn.{resume_sgmii_an}
 use Rattle.x553.specs.declared.prepare.FirmwarePrepared.{FirmwarePrepared}
 use Rattle.x553.specs.declared.firmware.SetupFirmware.{SetupFirmware}
 use Rattle.x553.specs.declared.firmware.SetupFirmware.TheVariants as firmwarev
-use Rattle.x553.specs.declared.firmware.FirmwareSet.{FirmwareSet}
-use Rattle.x553.specs.declared.firmware.FirmwareSet.TheVariants as firmwareset
-use Rattle.x553.specs.declared.firmware.FirmwareStep.{FirmwareStep}
-use Rattle.x553.specs.declared.firmware.FirmwareStep.TheVariants as firmwarestep
 
 -- FORCE_LINK_DOWN
 abbrev pub down_of : Asked
@@ -35,12 +32,12 @@ abbrev pub prepared_of : Port → Bool → FirmwarePrepared → Call Setup553
 prepared_of port veto p = setup_prepared 10 port veto (firmware p.phy p.reset p.down)
 
 -- what comes after each of its parts
-abbrev pub down_then : FirmwarePhy → MaybeWord → Call Words → Call Setup553
+abbrev pub down_then : FirmwarePhy → Option ℕ → Call Words → Call Setup553
 down_then phy internal t = t >>= λ _. firmware_set phy internal true
 
 abbrev pub info_done : Port → FirmwarePhy → ℕ → Words → Call Setup553
 info_done port phy flx out =
-    pick (is_clear out.w0 0x2000000) (firmware_set phy (maybe.Is flx) false) (firmware_down port phy (maybe.Is flx))
+    pick (is_clear out.w0 0x2000000) (firmware_set phy (Some flx) false) (firmware_down port phy (Some flx))
 
 abbrev pub info_then : Port → FirmwarePhy → ℕ → Call Words → Call Setup553
 info_then port phy flx t = t >>= λ out. info_done port phy flx out
@@ -56,7 +53,7 @@ internal_then port phy t = t >>= λ flx. link_then port phy flx (activity_of por
 
 abbrev pub got_mmngc : Port → FirmwarePhy → Bool → Res ℕ → Call Setup553
 got_mmngc port phy down got =
-    end got >>= λ mmngc. pick (is_clear mmngc 1) (setup_firmware 10 port phy down) (firmware_set phy maybe.Nothing false)
+    end got >>= λ mmngc. pick (is_clear mmngc 1) (setup_firmware 10 port phy down) (firmware_set phy None false)
 
 abbrev pub resume_firmware : Port → SetupFirmware → Res ℕ → List ℕ → Call Setup553
 resume_firmware port (firmwarev.Mmngc phy down) got ws = got_mmngc port phy down got
@@ -65,10 +62,9 @@ resume_firmware port (firmwarev.Link phy flx s) got ws = link_then port phy flx 
 resume_firmware port (firmwarev.Info phy flx s) got ws = info_then port phy flx (resume_activity port link_info_of s got ws)
 resume_firmware port (firmwarev.Down phy internal s) got ws = down_then phy internal (resume_activity port down_of s got ws)
 
-abbrev pub set_of : FirmwareSet → Res Setup553
-set_of (firmwareset.Ok s) = ok (setup.Firmware s)
-set_of (firmwareset.Err e) = err e
+abbrev pub set_of : Res FirmwareSetup → Res Setup553
+set_of (Ok s) = Ok (setup.Firmware s)
+set_of (Err e) = Err e
 
-abbrev pub told_firmware : Port → List ℕ → FirmwareStep → Call Setup553
-told_firmware port b (firmwarestep.Ask job s) = and_then (job_talk port job b) (λ p. resume_firmware port s p.0 p.1)
-told_firmware port b (firmwarestep.Done r) = end (set_of r)
+abbrev pub told_firmware : Port → List ℕ → Step Job SetupFirmware (Res FirmwareSetup) → Call Setup553
+told_firmware port b = told_job_by set_of port b (λ s got ws. resume_firmware port s got ws)

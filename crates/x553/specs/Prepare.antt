@@ -1,13 +1,15 @@
 -- What a suspended `prepare_firmware` still says, from what its job gives
-use Rattle.std.specs.Prelude.{ℕ, Bool, true, List, eqb}
+use Rattle.access.specs.declared.access.Job.{Job}
+use Rattle.access.specs.Access.{told_job_by}
+use Rattle.hardware.specs.declared.Step.{Step}
+use Rattle.hardware.specs.Talk.{Call, Res, ◌>>=◌, return}
+use Rattle.std.specs.Prelude.{ℕ, Bool, true, List, eqb, Err, Ok}
 use Rattle.std.specs.Int.Bits.{bit_or}
-use Rattle.hardware.specs.Talk.{Call, Res, ok, err, end, and_then, ◌>>=◌, return}
 use Rattle.hardware.specs.declared.Port.{Port}
 use Rattle.answers.specs.declared.FirmwarePhy.{FirmwarePhy}
 use Rattle.answers.specs.declared.Words.{Words}
 use Rattle.reference.specs.X553.{firmware, phy_info, prepare_info}
 use Rattle.reference.specs.X553 as x553
-use Rattle.access.specs.Access.{job_talk}
 use Rattle.activity.specs.Activity.{activity_of, begun_activity, resume_activity}
 use Rattle.activity.specs.declared.Activity.{Activity}
 use Rattle.activity.specs.declared.Asked.{Asked}
@@ -15,10 +17,7 @@ use Rattle.x553.specs.declared.prepare.FirmwarePlace.{FirmwarePlace}
 use Rattle.x553.specs.declared.prepare.FirmwarePlace.TheVariants as place
 use Rattle.x553.specs.declared.prepare.PrepareFirmware.{PrepareFirmware}
 use Rattle.x553.specs.declared.prepare.PrepareFirmware.TheVariants as prepare
-use Rattle.x553.specs.declared.prepare.Prepared.{Prepared}
-use Rattle.x553.specs.declared.prepare.Prepared.TheVariants as prepared
-use Rattle.x553.specs.declared.prepare.PrepareStep.{PrepareStep}
-use Rattle.x553.specs.declared.prepare.PrepareStep.TheVariants as preparestep
+use Rattle.x553.specs.declared.prepare.FirmwarePrepared.{FirmwarePrepared}
 
 abbrev pub asked_with : ℕ → ℕ → Asked
 asked_with activity d0 = record { activity = activity; «data» = record { w0 = d0; w1 = 0; w2 = 0; w3 = 0 } }
@@ -72,10 +71,9 @@ abbrev pub resume_prepare : Port → Bool → PrepareFirmware → Res ℕ → Li
 resume_prepare port veto (prepare.Info s) got ws = info_then port veto (resume_activity port info_of s got ws)
 resume_prepare port veto (prepare.Then p phy s) got ws = place_then port p phy (resume_activity port (asked_of p phy) s got ws)
 
-abbrev pub prepared_to : Prepared → Res x553.Prepared
-prepared_to (prepared.Ok p) = ok (firmware p.phy p.reset p.down)
-prepared_to (prepared.Err e) = err e
+abbrev pub prepared_to : Res FirmwarePrepared → Res x553.Prepared
+prepared_to (Ok p) = Ok (firmware p.phy p.reset p.down)
+prepared_to (Err e) = Err e
 
-abbrev pub told_prepare : Port → Bool → List ℕ → PrepareStep → Call x553.Prepared
-told_prepare port veto b (preparestep.Ask job s) = and_then (job_talk port job b) (λ p. resume_prepare port veto s p.0 p.1)
-told_prepare port veto b (preparestep.Done r) = end (prepared_to r)
+abbrev pub told_prepare : Port → Bool → List ℕ → Step Job PrepareFirmware (Res FirmwarePrepared) → Call x553.Prepared
+told_prepare port veto b = told_job_by prepared_to port b (λ s got ws. resume_prepare port veto s got ws)

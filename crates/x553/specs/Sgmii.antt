@@ -1,21 +1,19 @@
 -- What a suspended `sgmii` still says, from what its job gives
-use Rattle.std.specs.Prelude.{ℕ, List}
-use Rattle.hardware.specs.Talk.{Call, Res, ok, err, end, and_then, ◌>>=◌, ◌>>◌, return}
+use Rattle.access.specs.declared.access.Job.{Job}
+use Rattle.access.specs.Access.{told_job_by}
+use Rattle.hardware.specs.declared.Step.{Step}
+use Rattle.hardware.specs.Talk.{Call, Res, ◌>>=◌, ◌>>◌, return}
+use Rattle.std.specs.Prelude.{ℕ, List, Err, Ok}
 use Rattle.hardware.specs.declared.Port.{Port}
 use Rattle.answers.specs.declared.Setup553.{Setup553}
 use Rattle.answers.specs.declared.Setup553.TheVariants as setup
 use Rattle.answers.specs.declared.SgmiiSetup.{SgmiiSetup}
 use Rattle.reference.specs.X552.{restart_an}
-use Rattle.access.specs.Access.{job_talk}
 use Rattle.kr.specs.Modify.{change, modify_of, resume_modify}
 use Rattle.kr.specs.Sequence.{resume_sequence}
 use Rattle.kr.specs.declared.modify.Change.{Change}
 use Rattle.x553.specs.declared.sgmii.Sgmii.{Sgmii}
 use Rattle.x553.specs.declared.sgmii.Sgmii.TheVariants as sgmii
-use Rattle.x553.specs.declared.sgmii.SgmiiSet.{SgmiiSet}
-use Rattle.x553.specs.declared.sgmii.SgmiiSet.TheVariants as sgmiiset
-use Rattle.x553.specs.declared.sgmii.SgmiiStep.{SgmiiStep}
-use Rattle.x553.specs.declared.sgmii.SgmiiStep.TheVariants as sgmiistep
 
 -- what each call of `kr_modify` is for
 abbrev pub ctrl_of : Change
@@ -46,10 +44,9 @@ resume_sgmii port (sgmii.Force lc1 s) got = force_then port lc1 (resume_modify p
 resume_sgmii port (sgmii.Lane lc1 forced s) got = lane_then port lc1 forced (resume_modify port lane_of s got)
 resume_sgmii port (sgmii.Restart set s) got = restart_then set (resume_sequence port s got)
 
-abbrev pub set_of : SgmiiSet → Res Setup553
-set_of (sgmiiset.Ok s) = ok (setup.Sgmii s)
-set_of (sgmiiset.Err e) = err e
+abbrev pub set_of : Res SgmiiSetup → Res Setup553
+set_of (Ok s) = Ok (setup.Sgmii s)
+set_of (Err e) = Err e
 
-abbrev pub told_sgmii : Port → List ℕ → SgmiiStep → Call Setup553
-told_sgmii port b (sgmiistep.Ask job s) = and_then (job_talk port job b) (λ p. resume_sgmii port s p.0)
-told_sgmii port b (sgmiistep.Done r) = end (set_of r)
+abbrev pub told_sgmii : Port → List ℕ → Step Job Sgmii (Res SgmiiSetup) → Call Setup553
+told_sgmii port b = told_job_by set_of port b (λ s got _. resume_sgmii port s got)

@@ -1,18 +1,17 @@
 -- What a suspended `sgmii_an` still says, from what its job gives
+use Rattle.access.specs.declared.access.Job.{Job}
+use Rattle.access.specs.Access.{told_job}
+use Rattle.hardware.specs.declared.Step.{Step}
+use Rattle.hardware.specs.Talk.{Call, Res, end, ◌>>=◌, ◌>>◌, return}
 use Rattle.std.specs.Prelude.{ℕ, List}
-use Rattle.hardware.specs.Talk.{Call, Res, end, and_then, ◌>>=◌, ◌>>◌, return}
-use Rattle.hardware.specs.Told.{word_of}
 use Rattle.hardware.specs.declared.Port.{Port}
 use Rattle.words.specs.Kr.{krm}
 use Rattle.reference.specs.X552.{kr_write, restart_an}
-use Rattle.access.specs.Access.{job_talk}
 use Rattle.kr.specs.Modify.{change, modify_of, resume_modify}
 use Rattle.kr.specs.Sequence.{resume_sequence}
 use Rattle.kr.specs.declared.modify.Change.{Change}
 use Rattle.x553.specs.declared.sgmii_an.SgmiiAn.{SgmiiAn}
 use Rattle.x553.specs.declared.sgmii_an.SgmiiAn.TheVariants as sgmii
-use Rattle.x553.specs.declared.sgmii_an.SgmiiAnStep.{SgmiiAnStep}
-use Rattle.x553.specs.declared.sgmii_an.SgmiiAnStep.TheVariants as sgmiistep
 
 -- what each call of `kr_modify` is for
 abbrev pub ctrl_of : Change
@@ -48,6 +47,5 @@ resume_sgmii_an port sgmii.Again got = got_again port got
 resume_sgmii_an port (sgmii.Lane s) got = lane_then port (resume_modify port lane_of s got)
 resume_sgmii_an port (sgmii.Restart flx s) got = restart_then flx (resume_sequence port s got)
 
-abbrev pub told_sgmii_an : Port → List ℕ → SgmiiAnStep → Call ℕ
-told_sgmii_an port b (sgmiistep.Ask job s) = and_then (job_talk port job b) (λ p. resume_sgmii_an port s p.0)
-told_sgmii_an port b (sgmiistep.Done r) = end (word_of r)
+abbrev pub told_sgmii_an : Port → List ℕ → Step Job SgmiiAn (Res ℕ) → Call ℕ
+told_sgmii_an port b = told_job port b (λ s got _. resume_sgmii_an port s got)

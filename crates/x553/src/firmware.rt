@@ -1,6 +1,5 @@
 // x553.rs's `setup`, its arm for a PHY that belongs to the firmware.
 ghost use Rattle.std.specs.Prelude.{ℕ, List, ◌≡◌, take};
-ghost use Rattle.hardware.specs.Told.{word_of};
 ghost use Rattle.activity.specs.Activity.{told_activity};
 ghost use Rattle.reference.specs.X553.{firmware_set, firmware_down, setup_firmware};
 ghost use Rattle.x553.specs.Prepare.{link_of};
@@ -21,11 +20,11 @@ ghost use Rattle.x553.specs.Firmware.{
 };
 
 use crate::prepare::{FirmwarePlace, FirmwarePrepared, asked, begin};
-use crate::sgmii_an::{SgmiiAn, SgmiiAnStep};
+use crate::sgmii_an::SgmiiAn;
 use access::access::Job;
-use activity::{Activity, ActivityStep, Found};
-use answers::{FirmwarePhy, FirmwareSetup, MaybeWord, Words};
-use hardware::{Error, Port, Word};
+use activity::Activity;
+use answers::{FirmwarePhy, FirmwareSetup, Words};
+use hardware::{Error, Port, Step};
 
 #[derive(Clone, Copy)]
 pub enum SetupFirmware {
@@ -37,20 +36,7 @@ pub enum SetupFirmware {
     // GET_LINK_INFO
     Info(FirmwarePhy, u32, Activity),
     // FORCE_LINK_DOWN
-    Down(FirmwarePhy, MaybeWord, Activity),
-}
-
-// R<Setup>
-#[derive(Clone, Copy)]
-pub enum FirmwareSet {
-    Ok(FirmwareSetup),
-    Err(Error),
-}
-
-#[derive(Clone, Copy)]
-pub enum FirmwareStep {
-    Ask(Job, SetupFirmware),
-    Done(FirmwareSet),
+    Down(FirmwarePhy, Option<u32>, Activity),
 }
 
 impl SetupFirmware {
@@ -58,10 +44,15 @@ impl SetupFirmware {
 
     pub const FORCE_LINK_DOWN: u16 = 4;
 
-    fn set(port: Port, phy: FirmwarePhy, internal: MaybeWord, overtemp: bool) -> FirmwareStep
+    fn set(
+        port: Port,
+        phy: FirmwarePhy,
+        internal: Option<u32>,
+        overtemp: bool,
+    ) -> Step<Job, SetupFirmware, Result<FirmwareSetup, Error>>
         ensures { (b : List ℕ) → told_firmware port b result ≡ firmware_set phy internal overtemp }
     {
-        FirmwareStep::Done(FirmwareSet::Ok(FirmwareSetup {
+        Step::Done(Ok(FirmwareSetup {
             phy,
             internal,
             overtemp,
@@ -71,19 +62,16 @@ impl SetupFirmware {
     fn after_down(
         port: Port,
         phy: FirmwarePhy,
-        internal: MaybeWord,
-        step: ActivityStep,
-    ) -> FirmwareStep
+        internal: Option<u32>,
+        step: Step<Job, Activity, Result<Words, Error>>,
+    ) -> Step<Job, SetupFirmware, Result<FirmwareSetup, Error>>
         ensures { (b : List ℕ) → told_firmware port b result ≡ down_then phy internal (told_activity port down_of b step) }
     {
         match step {
-            ActivityStep::Ask(job, s) => FirmwareStep::Ask(
-                job,
-                SetupFirmware::Down(phy, internal, s),
-            ),
-            ActivityStep::Done(r) => match r {
-                Found::Err(e) => FirmwareStep::Done(FirmwareSet::Err(e)),
-                Found::Ok(_) => SetupFirmware::set(port, phy, internal, true),
+            Step::Ask(job, s) => Step::Ask(job, SetupFirmware::Down(phy, internal, s)),
+            Step::Done(r) => match r {
+                Err(e) => Step::Done(Err(e)),
+                Ok(_) => SetupFirmware::set(port, phy, internal, true),
             },
         }
     }
@@ -92,13 +80,13 @@ impl SetupFirmware {
     fn down(
         port: Port,
         phy: FirmwarePhy,
-        internal: MaybeWord,
+        internal: Option<u32>,
         block: &mut [u32; 16],
-    ) -> FirmwareStep
+    ) -> Step<Job, SetupFirmware, Result<FirmwareSetup, Error>>
         ensures { told_firmware port block.new result ≡ firmware_down port phy internal }
     {
         let s = begin(SetupFirmware::FORCE_LINK_DOWN, 1, port, block);
-        FirmwareStep::Ask(Job::Command(6), SetupFirmware::Down(phy, internal, s))
+        Step::Ask(Job::Command(6), SetupFirmware::Down(phy, internal, s))
     }
 
     fn info(
@@ -107,13 +95,13 @@ impl SetupFirmware {
         flx: u32,
         block: &mut [u32; 16],
         out: Words,
-    ) -> FirmwareStep
+    ) -> Step<Job, SetupFirmware, Result<FirmwareSetup, Error>>
         ensures { told_firmware port block.new result ≡ info_done port phy flx out }
     {
         if out.w0 & 0x200_0000 == 0 {
-            SetupFirmware::set(port, phy, MaybeWord::Is(flx), false)
+            SetupFirmware::set(port, phy, Some(flx), false)
         } else {
-            SetupFirmware::down(port, phy, MaybeWord::Is(flx), block)
+            SetupFirmware::down(port, phy, Some(flx), block)
         }
     }
 
@@ -122,15 +110,15 @@ impl SetupFirmware {
         phy: FirmwarePhy,
         flx: u32,
         block: &mut [u32; 16],
-        step: ActivityStep,
-    ) -> FirmwareStep
+        step: Step<Job, Activity, Result<Words, Error>>,
+    ) -> Step<Job, SetupFirmware, Result<FirmwareSetup, Error>>
         ensures { told_firmware port block.new result ≡ info_then port phy flx (told_activity port link_info_of block.old step) }
     {
         match step {
-            ActivityStep::Ask(job, s) => FirmwareStep::Ask(job, SetupFirmware::Info(phy, flx, s)),
-            ActivityStep::Done(r) => match r {
-                Found::Err(e) => FirmwareStep::Done(FirmwareSet::Err(e)),
-                Found::Ok(out) => SetupFirmware::info(port, phy, flx, block, out),
+            Step::Ask(job, s) => Step::Ask(job, SetupFirmware::Info(phy, flx, s)),
+            Step::Done(r) => match r {
+                Err(e) => Step::Done(Err(e)),
+                Ok(out) => SetupFirmware::info(port, phy, flx, block, out),
             },
         }
     }
@@ -141,14 +129,14 @@ impl SetupFirmware {
         flx: u32,
         block: &mut [u32; 16],
         out: Words,
-    ) -> FirmwareStep
+    ) -> Step<Job, SetupFirmware, Result<FirmwareSetup, Error>>
         ensures { told_firmware port block.new result ≡ link_done port phy flx out }
     {
         if out.w0 == 1 {
-            return SetupFirmware::down(port, phy, MaybeWord::Is(flx), block);
+            return SetupFirmware::down(port, phy, Some(flx), block);
         }
         let s = begin(SetupFirmware::GET_LINK_INFO, 0, port, block);
-        FirmwareStep::Ask(Job::Command(6), SetupFirmware::Info(phy, flx, s))
+        Step::Ask(Job::Command(6), SetupFirmware::Info(phy, flx, s))
     }
 
     fn after_link(
@@ -156,15 +144,15 @@ impl SetupFirmware {
         phy: FirmwarePhy,
         flx: u32,
         block: &mut [u32; 16],
-        step: ActivityStep,
-    ) -> FirmwareStep
+        step: Step<Job, Activity, Result<Words, Error>>,
+    ) -> Step<Job, SetupFirmware, Result<FirmwareSetup, Error>>
         ensures { told_firmware port block.new result ≡ link_then port phy flx (told_activity port (link_of phy) block.old step) }
     {
         match step {
-            ActivityStep::Ask(job, s) => FirmwareStep::Ask(job, SetupFirmware::Link(phy, flx, s)),
-            ActivityStep::Done(r) => match r {
-                Found::Err(e) => FirmwareStep::Done(FirmwareSet::Err(e)),
-                Found::Ok(out) => SetupFirmware::link(port, phy, flx, block, out),
+            Step::Ask(job, s) => Step::Ask(job, SetupFirmware::Link(phy, flx, s)),
+            Step::Done(r) => match r {
+                Err(e) => Step::Done(Err(e)),
+                Ok(out) => SetupFirmware::link(port, phy, flx, block, out),
             },
         }
     }
@@ -173,18 +161,18 @@ impl SetupFirmware {
         port: Port,
         phy: FirmwarePhy,
         block: &mut [u32; 16],
-        step: SgmiiAnStep,
-    ) -> FirmwareStep
+        step: Step<Job, SgmiiAn, Result<u32, Error>>,
+    ) -> Step<Job, SetupFirmware, Result<FirmwareSetup, Error>>
         ensures { told_firmware port block.new result ≡ internal_then port phy (told_sgmii_an port block.old step) }
     {
         match step {
-            SgmiiAnStep::Ask(job, s) => FirmwareStep::Ask(job, SetupFirmware::Internal(phy, s)),
-            SgmiiAnStep::Done(r) => match r {
-                Word::Err(e) => FirmwareStep::Done(FirmwareSet::Err(e)),
-                Word::Ok(flx) => {
+            Step::Ask(job, s) => Step::Ask(job, SetupFirmware::Internal(phy, s)),
+            Step::Done(r) => match r {
+                Err(e) => Step::Done(Err(e)),
+                Ok(flx) => {
                     let data = phy.speeds as u32 | FirmwarePlace::HP | FirmwarePlace::AN;
                     let s = begin(FirmwarePlace::SETUP_LINK, data, port, block);
-                    FirmwareStep::Ask(Job::Command(6), SetupFirmware::Link(phy, flx, s))
+                    Step::Ask(Job::Command(6), SetupFirmware::Link(phy, flx, s))
                 }
             },
         }
@@ -192,11 +180,16 @@ impl SetupFirmware {
 
     // One that is down already is not set up again.
     #[tactic(auto, unfolding(reference::specs::X553::setup_firmware))]
-    fn free(port: Port, phy: FirmwarePhy, down: bool, block: &mut [u32; 16]) -> FirmwareStep
+    fn free(
+        port: Port,
+        phy: FirmwarePhy,
+        down: bool,
+        block: &mut [u32; 16],
+    ) -> Step<Job, SetupFirmware, Result<FirmwareSetup, Error>>
         ensures { told_firmware port block.new result ≡ setup_firmware 10 port phy down }
     {
         if down {
-            return SetupFirmware::down(port, phy, MaybeWord::Nothing, block);
+            return SetupFirmware::down(port, phy, None, block);
         }
         let step = SgmiiAn::start(port);
         SetupFirmware::after_internal(port, phy, block, step)
@@ -207,41 +200,51 @@ impl SetupFirmware {
         phy: FirmwarePhy,
         down: bool,
         block: &mut [u32; 16],
-        got: Word,
-    ) -> FirmwareStep
-        ensures { told_firmware port block.new result ≡ got_mmngc port phy down (word_of got) }
+        got: Result<u32, Error>,
+    ) -> Step<Job, SetupFirmware, Result<FirmwareSetup, Error>>
+        ensures { told_firmware port block.new result ≡ got_mmngc port phy down got }
     {
         match got {
-            Word::Err(e) => FirmwareStep::Done(FirmwareSet::Err(e)),
-            Word::Ok(mmngc) => {
+            Err(e) => Step::Done(Err(e)),
+            Ok(mmngc) => {
                 if mmngc & 1 == 0 {
                     SetupFirmware::free(port, phy, down, block)
                 } else {
-                    SetupFirmware::set(port, phy, MaybeWord::Nothing, false)
+                    SetupFirmware::set(port, phy, None, false)
                 }
             }
         }
     }
 
     // Where the PHY was not reset, MMNGC is not read.
-    pub fn start(veto: bool, port: Port, prepared: FirmwarePrepared) -> FirmwareStep
+    pub fn start(
+        veto: bool,
+        port: Port,
+        prepared: FirmwarePrepared,
+    ) -> Step<Job, SetupFirmware, Result<FirmwareSetup, Error>>
         ensures { (b : List ℕ) → told_firmware port b result ≡ prepared_of port veto prepared }
     {
         let phy = prepared.phy;
         if prepared.reset {
             if veto {
-                return SetupFirmware::set(port, phy, MaybeWord::Nothing, false);
+                return SetupFirmware::set(port, phy, None, false);
             }
-            return FirmwareStep::Ask(
+            return Step::Ask(
                 Job::Read(Port::MMNGC),
                 SetupFirmware::Mmngc(phy, prepared.down),
             );
         }
-        SetupFirmware::set(port, phy, MaybeWord::Nothing, false)
+        SetupFirmware::set(port, phy, None, false)
     }
 
-    pub fn next(self, port: Port, block: &mut [u32; 16], got: Word, words: usize) -> FirmwareStep
-        ensures { told_firmware port block.new result ≡ resume_firmware port self (word_of got) (take words block.old) }
+    pub fn next(
+        self,
+        port: Port,
+        block: &mut [u32; 16],
+        got: Result<u32, Error>,
+        words: usize,
+    ) -> Step<Job, SetupFirmware, Result<FirmwareSetup, Error>>
+        ensures { told_firmware port block.new result ≡ resume_firmware port self got (take words block.old) }
     {
         match self {
             SetupFirmware::Mmngc(phy, down) => SetupFirmware::after_mmngc(

@@ -1,26 +1,14 @@
 // x553.rs's `prepare_firmware`: the firmware's PHY identified, then, unless there is a veto, reset and set up.
 ghost use Rattle.std.specs.Prelude.{ℕ, true, List, ◌≡◌, take};
-ghost use Rattle.hardware.specs.Told.{word_of};
 ghost use Rattle.activity.specs.Activity.{told_activity};
 ghost use Rattle.reference.specs.Hostif.{phy_activity};
 ghost use Rattle.reference.specs.X553.{phy_info, prepare_info, prepare_firmware};
-ghost use Rattle.x553.specs.Prepare.{
-  asked_with,
-  begun_with,
-  info_of,
-  asked_of,
-  info_then,
-  place_at,
-  place_then,
-  place_done,
-  resume_prepare,
-  told_prepare,
-};
+ghost use Rattle.x553.specs.Prepare.{asked_with, begun_with, info_of, asked_of, info_then, place_at, place_then, place_done, resume_prepare, told_prepare};
 
 use access::access::Job;
-use activity::{Activity, ActivityStep, Asked, Found};
+use activity::{Activity, Asked};
 use answers::{FirmwarePhy, Words};
-use hardware::{Error, Port, Word};
+use hardware::{Error, Port, Step};
 
 // Which activity after the first.
 #[derive(Clone, Copy)]
@@ -42,19 +30,6 @@ pub struct FirmwarePrepared {
     pub phy: FirmwarePhy,
     pub reset: bool,
     pub down: bool,
-}
-
-// R<Prepared>
-#[derive(Clone, Copy)]
-pub enum Prepared {
-    Ok(FirmwarePrepared),
-    Err(Error),
-}
-
-#[derive(Clone, Copy)]
-pub enum PrepareStep {
-    Ask(Job, PrepareFirmware),
-    Done(Prepared),
 }
 
 // An activity with one word of data.
@@ -129,11 +104,11 @@ impl PrepareFirmware {
         veto: bool,
         port: Port,
         block: &mut [u32; 16],
-    ) -> PrepareStep
+    ) -> Step<Job, PrepareFirmware, Result<FirmwarePrepared, Error>>
         ensures { told_prepare port veto block.new result ≡ place_at port place phy }
     {
         let s = Activity::first(place.asked(phy), port, block);
-        PrepareStep::Ask(Job::Command(6), PrepareFirmware::Then(place, phy, s))
+        Step::Ask(Job::Command(6), PrepareFirmware::Then(place, phy, s))
     }
 
     fn then(
@@ -143,7 +118,7 @@ impl PrepareFirmware {
         port: Port,
         block: &mut [u32; 16],
         out: Words,
-    ) -> PrepareStep
+    ) -> Step<Job, PrepareFirmware, Result<FirmwarePrepared, Error>>
         ensures { told_prepare port veto block.new result ≡ place_done port place phy out }
     {
         match place {
@@ -161,7 +136,7 @@ impl PrepareFirmware {
                 port,
                 block,
             ),
-            FirmwarePlace::Setup => PrepareStep::Done(Prepared::Ok(FirmwarePrepared {
+            FirmwarePlace::Setup => Step::Done(Ok(FirmwarePrepared {
                 phy,
                 reset: true,
                 down: out.w0 == 1,
@@ -175,34 +150,36 @@ impl PrepareFirmware {
         veto: bool,
         port: Port,
         block: &mut [u32; 16],
-        step: ActivityStep,
-    ) -> PrepareStep
+        step: Step<Job, Activity, Result<Words, Error>>,
+    ) -> Step<Job, PrepareFirmware, Result<FirmwarePrepared, Error>>
         ensures { told_prepare port veto block.new result ≡ place_then port place phy (told_activity port (asked_of place phy) block.old step) }
     {
         match step {
-            ActivityStep::Ask(job, s) => PrepareStep::Ask(
-                job,
-                PrepareFirmware::Then(place, phy, s),
-            ),
-            ActivityStep::Done(r) => match r {
-                Found::Err(e) => PrepareStep::Done(Prepared::Err(e)),
-                Found::Ok(out) => PrepareFirmware::then(place, phy, veto, port, block, out),
+            Step::Ask(job, s) => Step::Ask(job, PrepareFirmware::Then(place, phy, s)),
+            Step::Done(r) => match r {
+                Err(e) => Step::Done(Err(e)),
+                Ok(out) => PrepareFirmware::then(place, phy, veto, port, block, out),
             },
         }
     }
 
     // No PHY has an id of 0 or 0xfffffff0.
-    fn info(veto: bool, port: Port, block: &mut [u32; 16], phy: FirmwarePhy) -> PrepareStep
+    fn info(
+        veto: bool,
+        port: Port,
+        block: &mut [u32; 16],
+        phy: FirmwarePhy,
+    ) -> Step<Job, PrepareFirmware, Result<FirmwarePrepared, Error>>
         ensures { told_prepare port veto block.new result ≡ prepare_info port veto phy }
     {
         if phy.id == 0 {
-            return PrepareStep::Done(Prepared::Err(Error::NoPhy));
+            return Step::Done(Err(Error::NoPhy));
         }
         if phy.id == 0xffff_fff0 {
-            return PrepareStep::Done(Prepared::Err(Error::NoPhy));
+            return Step::Done(Err(Error::NoPhy));
         }
         if veto {
-            return PrepareStep::Done(Prepared::Ok(FirmwarePrepared {
+            return Step::Done(Ok(FirmwarePrepared {
                 phy,
                 reset: false,
                 down: false,
@@ -211,24 +188,33 @@ impl PrepareFirmware {
         PrepareFirmware::begin(FirmwarePlace::Reset, phy, veto, port, block)
     }
 
-    fn after_info(veto: bool, port: Port, block: &mut [u32; 16], step: ActivityStep) -> PrepareStep
+    fn after_info(
+        veto: bool,
+        port: Port,
+        block: &mut [u32; 16],
+        step: Step<Job, Activity, Result<Words, Error>>,
+    ) -> Step<Job, PrepareFirmware, Result<FirmwarePrepared, Error>>
         ensures { told_prepare port veto block.new result ≡ info_then port veto (told_activity port info_of block.old step) }
     {
         match step {
-            ActivityStep::Ask(job, s) => PrepareStep::Ask(job, PrepareFirmware::Info(s)),
-            ActivityStep::Done(r) => match r {
-                Found::Err(e) => PrepareStep::Done(Prepared::Err(e)),
-                Found::Ok(out) => PrepareFirmware::info(veto, port, block, phy_info(out)),
+            Step::Ask(job, s) => Step::Ask(job, PrepareFirmware::Info(s)),
+            Step::Done(r) => match r {
+                Err(e) => Step::Done(Err(e)),
+                Ok(out) => PrepareFirmware::info(veto, port, block, phy_info(out)),
             },
         }
     }
 
     #[tactic(auto, unfolding(reference::specs::X553::prepare_firmware))]
-    pub fn start(veto: bool, port: Port, block: &mut [u32; 16]) -> PrepareStep
+    pub fn start(
+        veto: bool,
+        port: Port,
+        block: &mut [u32; 16],
+    ) -> Step<Job, PrepareFirmware, Result<FirmwarePrepared, Error>>
         ensures { told_prepare port veto block.new result ≡ prepare_firmware port veto }
     {
         let s = begin(FirmwarePlace::GET_PHY_INFO, 0, port, block);
-        PrepareStep::Ask(Job::Command(6), PrepareFirmware::Info(s))
+        Step::Ask(Job::Command(6), PrepareFirmware::Info(s))
     }
 
     pub fn next(
@@ -236,10 +222,10 @@ impl PrepareFirmware {
         veto: bool,
         port: Port,
         block: &mut [u32; 16],
-        got: Word,
+        got: Result<u32, Error>,
         words: usize,
-    ) -> PrepareStep
-        ensures { told_prepare port veto block.new result ≡ resume_prepare port veto self (word_of got) (take words block.old) }
+    ) -> Step<Job, PrepareFirmware, Result<FirmwarePrepared, Error>>
+        ensures { told_prepare port veto block.new result ≡ resume_prepare port veto self got (take words block.old) }
     {
         match self {
             PrepareFirmware::Info(s) => {

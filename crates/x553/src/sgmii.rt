@@ -1,6 +1,5 @@
 // x553.rs's `sgmii`: the internal PHY in SGMII at 1G.
 ghost use Rattle.std.specs.Prelude.{ℕ, List, ◌≡◌};
-ghost use Rattle.hardware.specs.Told.{word_of};
 ghost use Rattle.kr.specs.Modify.{told_modify};
 ghost use Rattle.kr.specs.Sequence.{told_sequence};
 ghost use Rattle.reference.specs.X553.{sgmii};
@@ -8,9 +7,9 @@ ghost use Rattle.x553.specs.Sgmii.{ctrl_of, force_of, lane_of, ctrl_then, force_
 
 use access::access::Job;
 use answers::SgmiiSetup;
-use hardware::{Error, Port, Word};
-use kr::modify::{Change, KrModify, KrModifyStep};
-use kr::sequence::{KrPlace, Sequence, SequenceStep};
+use hardware::{Error, Port, Step};
+use kr::modify::{Change, KrModify};
+use kr::sequence::{KrPlace, Sequence};
 
 // The numbers are LINK_CTRL_1 and SGMII_CTRL as written.
 #[derive(Clone, Copy)]
@@ -19,19 +18,6 @@ pub enum Sgmii {
     Force(u32, KrModify),
     Lane(u32, u32, KrModify),
     Restart(SgmiiSetup, Sequence),
-}
-
-// R<Setup>
-#[derive(Clone, Copy)]
-pub enum SgmiiSet {
-    Ok(SgmiiSetup),
-    Err(Error),
-}
-
-#[derive(Clone, Copy)]
-pub enum SgmiiStep {
-    Ask(Job, Sgmii),
-    Done(SgmiiSet),
 }
 
 impl Sgmii {
@@ -53,27 +39,36 @@ impl Sgmii {
         Change::of(Change::FLX, 0x7800_0000, 0x2600_0000)
     }
 
-    fn after_restart(port: Port, set: SgmiiSetup, step: SequenceStep) -> SgmiiStep
+    fn after_restart(
+        port: Port,
+        set: SgmiiSetup,
+        step: Step<Job, Sequence, Result<u32, Error>>,
+    ) -> Step<Job, Sgmii, Result<SgmiiSetup, Error>>
         ensures { (b : List ℕ) → told_sgmii port b result ≡ restart_then set (told_sequence port b step) }
     {
         match step {
-            SequenceStep::Ask(job, s) => SgmiiStep::Ask(job, Sgmii::Restart(set, s)),
-            SequenceStep::Done(r) => match r {
-                Word::Err(e) => SgmiiStep::Done(SgmiiSet::Err(e)),
-                Word::Ok(_) => SgmiiStep::Done(SgmiiSet::Ok(set)),
+            Step::Ask(job, s) => Step::Ask(job, Sgmii::Restart(set, s)),
+            Step::Done(r) => match r {
+                Err(e) => Step::Done(Err(e)),
+                Ok(_) => Step::Done(Ok(set)),
             },
         }
     }
 
     #[tactic(auto, unfolding(reference::specs::X552::restart_an))]
-    fn after_lane(port: Port, lc1: u32, sgmii: u32, step: KrModifyStep) -> SgmiiStep
+    fn after_lane(
+        port: Port,
+        lc1: u32,
+        sgmii: u32,
+        step: Step<Job, KrModify, Result<u32, Error>>,
+    ) -> Step<Job, Sgmii, Result<SgmiiSetup, Error>>
         ensures { (b : List ℕ) → told_sgmii port b result ≡ lane_then port lc1 sgmii (told_modify port lane_of b step) }
     {
         match step {
-            KrModifyStep::Ask(job, s) => SgmiiStep::Ask(job, Sgmii::Lane(lc1, sgmii, s)),
-            KrModifyStep::Done(r) => match r {
-                Word::Err(e) => SgmiiStep::Done(SgmiiSet::Err(e)),
-                Word::Ok(flx) => {
+            Step::Ask(job, s) => Step::Ask(job, Sgmii::Lane(lc1, sgmii, s)),
+            Step::Done(r) => match r {
+                Err(e) => Step::Done(Err(e)),
+                Ok(flx) => {
                     let set = SgmiiSetup {
                         link_ctrl: lc1,
                         sgmii,
@@ -86,14 +81,18 @@ impl Sgmii {
         }
     }
 
-    fn after_force(port: Port, lc1: u32, step: KrModifyStep) -> SgmiiStep
+    fn after_force(
+        port: Port,
+        lc1: u32,
+        step: Step<Job, KrModify, Result<u32, Error>>,
+    ) -> Step<Job, Sgmii, Result<SgmiiSetup, Error>>
         ensures { (b : List ℕ) → told_sgmii port b result ≡ force_then port lc1 (told_modify port force_of b step) }
     {
         match step {
-            KrModifyStep::Ask(job, s) => SgmiiStep::Ask(job, Sgmii::Force(lc1, s)),
-            KrModifyStep::Done(r) => match r {
-                Word::Err(e) => SgmiiStep::Done(SgmiiSet::Err(e)),
-                Word::Ok(sgmii) => {
+            Step::Ask(job, s) => Step::Ask(job, Sgmii::Force(lc1, s)),
+            Step::Done(r) => match r {
+                Err(e) => Step::Done(Err(e)),
+                Ok(sgmii) => {
                     let step = KrModify::start(Sgmii::lane(), port);
                     Sgmii::after_lane(port, lc1, sgmii, step)
                 }
@@ -101,14 +100,17 @@ impl Sgmii {
         }
     }
 
-    fn after_ctrl(port: Port, step: KrModifyStep) -> SgmiiStep
+    fn after_ctrl(
+        port: Port,
+        step: Step<Job, KrModify, Result<u32, Error>>,
+    ) -> Step<Job, Sgmii, Result<SgmiiSetup, Error>>
         ensures { (b : List ℕ) → told_sgmii port b result ≡ ctrl_then port (told_modify port ctrl_of b step) }
     {
         match step {
-            KrModifyStep::Ask(job, s) => SgmiiStep::Ask(job, Sgmii::Ctrl(s)),
-            KrModifyStep::Done(r) => match r {
-                Word::Err(e) => SgmiiStep::Done(SgmiiSet::Err(e)),
-                Word::Ok(lc1) => {
+            Step::Ask(job, s) => Step::Ask(job, Sgmii::Ctrl(s)),
+            Step::Done(r) => match r {
+                Err(e) => Step::Done(Err(e)),
+                Ok(lc1) => {
                     let step = KrModify::start(Sgmii::force(), port);
                     Sgmii::after_force(port, lc1, step)
                 }
@@ -117,15 +119,19 @@ impl Sgmii {
     }
 
     #[tactic(auto, unfolding(reference::specs::X553::sgmii))]
-    pub fn start(port: Port) -> SgmiiStep
+    pub fn start(port: Port) -> Step<Job, Sgmii, Result<SgmiiSetup, Error>>
         ensures { (b : List ℕ) → told_sgmii port b result ≡ sgmii 10 port }
     {
         let step = KrModify::start(Sgmii::ctrl(), port);
         Sgmii::after_ctrl(port, step)
     }
 
-    pub fn next(self, port: Port, got: Word) -> SgmiiStep
-        ensures { (b : List ℕ) → told_sgmii port b result ≡ resume_sgmii port self (word_of got) }
+    pub fn next(
+        self,
+        port: Port,
+        got: Result<u32, Error>,
+    ) -> Step<Job, Sgmii, Result<SgmiiSetup, Error>>
+        ensures { (b : List ℕ) → told_sgmii port b result ≡ resume_sgmii port self got }
     {
         match self {
             Sgmii::Ctrl(s) => Sgmii::after_ctrl(port, s.next(Sgmii::ctrl(), port, got)),

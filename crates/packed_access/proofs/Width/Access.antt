@@ -21,10 +21,10 @@ use Rattle.access.specs.declared.locked.HoldPlace.{HoldPlace}
 use Rattle.access.specs.declared.locked.Locked.TheVariants as lockedv
 use Rattle.access.specs.declared.locked.Locked.{Locked}
 use Rattle.packed_access.specs.Access.{words_held, words_hold_place, words_bits_place, words_token_place, words_hold, words_body, words_locked, words_access}
-use Rattle.packed_access.proofs.Width.Hardware.{unit_length, word_length}
-use Rattle.packed_access.proofs.Width.Hostif.{command_length, flag_length}
-use Rattle.packed_access.proofs.Width.Mdio.{mdio_mdio_length, wanted_length}
-use Rattle.packed_access.proofs.Width.Sideband.{kr_wanted_length, nvm_length, sideband_kr_length}
+use Rattle.packed_access.proofs.Width.Hardware.{flag_or_error_length, nothing_or_error_length, word_or_error_length}
+use Rattle.packed_access.proofs.Width.Hostif.{command_length}
+use Rattle.packed_access.proofs.Width.Mdio.{mdio_length, wanted_length}
+use Rattle.packed_access.proofs.Width.Sideband.{kr_length, kr_wanted_length, nvm_length}
 use Rattle.packed_access.proofs.Width.Sync.{sync_length}
 
 pub held_length : (s : Held) → length (words_held s) ≡ 4
@@ -40,7 +40,7 @@ pub hold_place_length : (s : HoldPlace) → length (words_hold_place s) ≡ 7
 unfolding words_hold_place
 hold_place_length hold_placev.Alone = refl
 hold_place_length (hold_placev.Acquiring x0) = simp (length-append, held_length)
-hold_place_length (hold_placev.Releasing x0) = simp word_length
+hold_place_length (hold_placev.Releasing x0) = simp word_or_error_length
 
 pub drop_hold_place : (s : HoldPlace) (rest : List ℕ) → drop 7 (words_hold_place s ++ rest) ≡ rest
 drop_hold_place s rest = drop_at (words_hold_place s) rest 7 (hold_place_length s)
@@ -49,8 +49,8 @@ pub bits_place_length : (s : BitsPlace) → length (words_bits_place s) ≡ 8
 unfolding words_bits_place
 bits_place_length bits_placev.Plain = refl
 bits_place_length (bits_placev.Taking x0) = refl
-bits_place_length (bits_placev.Freeing x0 x1) = simp flag_length
-bits_place_length (bits_placev.Giving x0) = simp (length-append, unit_length)
+bits_place_length (bits_placev.Freeing x0 x1) = simp flag_or_error_length
+bits_place_length (bits_placev.Giving x0) = simp (length-append, nothing_or_error_length)
 
 pub drop_bits_place : (s : BitsPlace) (rest : List ℕ) → drop 8 (words_bits_place s ++ rest) ≡ rest
 drop_bits_place s rest = drop_at (words_bits_place s) rest 8 (bits_place_length s)
@@ -74,8 +74,8 @@ drop_hold s rest = drop_at (words_hold s) rest 24 (hold_length s)
 
 pub body_length : (s : Body) → length (words_body s) ≡ 8
 unfolding words_body
-body_length (bodyv.Mdio x0 x1) = simp (length-append, wanted_length, mdio_mdio_length)
-body_length (bodyv.Kr x0 x1) = simp (length-append, kr_wanted_length, sideband_kr_length)
+body_length (bodyv.Mdio x0 x1) = simp (length-append, wanted_length, mdio_length)
+body_length (bodyv.Kr x0 x1) = simp (length-append, kr_wanted_length, kr_length)
 body_length (bodyv.Nvm x0) = simp (length-append, nvm_length)
 
 pub drop_body : (s : Body) (rest : List ℕ) → drop 8 (words_body s ++ rest) ≡ rest

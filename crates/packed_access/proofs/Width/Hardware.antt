@@ -4,33 +4,15 @@ use mathlib.Core.Path.{◌≡◌, refl}
 use mathlib.Core.List.{List, ◌++◌}
 use lib.ListN.{length, drop}
 use lib.Seq.{drop_at}
+use Rattle.std.specs.Prelude.{Bool, Result}
 use Rattle.hardware.specs.declared.Action.TheVariants as actionv
 use Rattle.hardware.specs.declared.Action.{Action}
-use Rattle.hardware.specs.declared.Error.TheVariants as errorv
 use Rattle.hardware.specs.declared.Error.{Error}
 use Rattle.hardware.specs.declared.Family.TheVariants as familyv
 use Rattle.hardware.specs.declared.Family.{Family}
-use Rattle.hardware.specs.declared.Unit.TheVariants as unitv
-use Rattle.hardware.specs.declared.Unit.{Unit}
-use Rattle.hardware.specs.declared.Word.TheVariants as wordv
-use Rattle.hardware.specs.declared.Word.{Word}
-use Rattle.packed_access.specs.Hardware.{words_error, words_action, words_family, words_word, words_unit}
-
-pub error_length : (s : Error) → length (words_error s) ≡ 5
-unfolding words_error
-error_length (errorv.Io x0) = refl
-error_length errorv.Removed = refl
-error_length (errorv.Timeout x0 x1 x2 x3) = refl
-error_length (errorv.Sideband x0 x1) = refl
-error_length (errorv.Semaphore x0) = refl
-error_length (errorv.HostInterface x0) = refl
-error_length (errorv.Firmware x0 x1) = refl
-error_length errorv.NoPhy = refl
-error_length errorv.PhyReset = refl
-error_length errorv.Lan = refl
-error_length errorv.Fiber = refl
-error_length errorv.Address = refl
-error_length errorv.Block = refl
+use Rattle.packed_access.specs.Hardware.{words_error, words_action, words_family, error_length}
+use Rattle.packed_access.proofs.Parts.{result_length}
+use Rattle.packed_access.specs.Packed.{words_word, words_flag, words_nothing, words_result}
 
 pub drop_error : (s : Error) (rest : List ℕ) → drop 5 (words_error s ++ rest) ≡ rest
 drop_error s rest = drop_at (words_error s) rest 5 (error_length s)
@@ -52,18 +34,20 @@ family_length familyv.X553 = refl
 pub drop_family : (s : Family) (rest : List ℕ) → drop 1 (words_family s ++ rest) ≡ rest
 drop_family s rest = drop_at (words_family s) rest 1 (family_length s)
 
-pub word_length : (s : Word) → length (words_word s) ≡ 6
-unfolding words_word
-word_length (wordv.Ok x0) = refl
-word_length (wordv.Err x0) = simp error_length
+pub word_or_error_length : (s : Result ℕ Error) → length (words_result 1 5 words_word words_error s) ≡ 6
+word_or_error_length = result_length _ _ (λ _. refl) error_length
 
-pub drop_word : (s : Word) (rest : List ℕ) → drop 6 (words_word s ++ rest) ≡ rest
-drop_word s rest = drop_at (words_word s) rest 6 (word_length s)
+pub drop_word_or_error : (s : Result ℕ Error) (rest : List ℕ) → drop 6 (words_result 1 5 words_word words_error s ++ rest) ≡ rest
+drop_word_or_error s rest = drop_at (words_result 1 5 words_word words_error s) rest 6 (word_or_error_length s)
 
-pub unit_length : (s : Unit) → length (words_unit s) ≡ 6
-unfolding words_unit
-unit_length unitv.Ok = refl
-unit_length (unitv.Err x0) = simp error_length
+pub nothing_or_error_length : (s : Result (Unit {0}) Error) → length (words_result 0 5 words_nothing words_error s) ≡ 6
+nothing_or_error_length = result_length _ _ (λ _. refl) error_length
 
-pub drop_unit : (s : Unit) (rest : List ℕ) → drop 6 (words_unit s ++ rest) ≡ rest
-drop_unit s rest = drop_at (words_unit s) rest 6 (unit_length s)
+pub drop_nothing_or_error : (s : Result (Unit {0}) Error) (rest : List ℕ) → drop 6 (words_result 0 5 words_nothing words_error s ++ rest) ≡ rest
+drop_nothing_or_error s rest = drop_at (words_result 0 5 words_nothing words_error s) rest 6 (nothing_or_error_length s)
+
+pub flag_or_error_length : (s : Result Bool Error) → length (words_result 1 5 words_flag words_error s) ≡ 6
+flag_or_error_length = result_length _ _ (λ _. refl) error_length
+
+pub drop_flag_or_error : (s : Result Bool Error) (rest : List ℕ) → drop 6 (words_result 1 5 words_flag words_error s ++ rest) ≡ rest
+drop_flag_or_error s rest = drop_at (words_result 1 5 words_flag words_error s) rest 6 (flag_or_error_length s)

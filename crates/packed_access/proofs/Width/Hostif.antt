@@ -12,16 +12,14 @@ use Rattle.hostif.specs.declared.exchange.Exchange.TheVariants as exchangev
 use Rattle.hostif.specs.declared.exchange.Exchange.{Exchange}
 use Rattle.hostif.specs.declared.post.Post.TheVariants as postv
 use Rattle.hostif.specs.declared.post.Post.{Post}
-use Rattle.hostif.specs.declared.token.Flag.TheVariants as flagv
-use Rattle.hostif.specs.declared.token.Flag.{Flag}
-use Rattle.packed_access.specs.Hostif.{words_command_place, words_post, words_exchange, words_command, words_flag}
-use Rattle.packed_access.proofs.Width.Hardware.{error_length, word_length}
+use Rattle.packed_access.specs.Hostif.{words_command_place, words_post, words_exchange, words_command}
+use Rattle.packed_access.proofs.Width.Hardware.{word_or_error_length}
 use Rattle.packed_access.proofs.Width.Sync.{sync_length}
 
 pub command_place_length : (s : CommandPlace) → length (words_command_place s) ≡ 7
 unfolding words_command_place
 command_place_length command_placev.Acquiring = refl
-command_place_length (command_placev.Releasing x0) = simp word_length
+command_place_length (command_placev.Releasing x0) = simp word_or_error_length
 
 pub drop_command_place : (s : CommandPlace) (rest : List ℕ) → drop 7 (words_command_place s ++ rest) ≡ rest
 drop_command_place s rest = drop_at (words_command_place s) rest 7 (command_place_length s)
@@ -55,11 +53,3 @@ command_length (commandv.Body x0) = simp (length-append, exchange_length)
 
 pub drop_command : (s : Command) (rest : List ℕ) → drop 21 (words_command s ++ rest) ≡ rest
 drop_command s rest = drop_at (words_command s) rest 21 (command_length s)
-
-pub flag_length : (s : Flag) → length (words_flag s) ≡ 6
-unfolding words_flag
-flag_length (flagv.Ok x0) = refl
-flag_length (flagv.Err x0) = simp error_length
-
-pub drop_flag : (s : Flag) (rest : List ℕ) → drop 6 (words_flag s ++ rest) ≡ rest
-drop_flag s rest = drop_at (words_flag s) rest 6 (flag_length s)

@@ -39,11 +39,11 @@ cycle_length (cyclev.Reading x0) = refl
 pub drop_cycle : (s : Cycle) (rest : List ℕ) → drop 2 (words_cycle s ++ rest) ≡ rest
 drop_cycle s rest = drop_at (words_cycle s) rest 2 (cycle_length s)
 
-pub mdio_mdio_length : (s : Mdio) → length (words_mdio s) ≡ 4
+pub mdio_length : (s : Mdio) → length (words_mdio s) ≡ 4
 unfolding words_mdio
-mdio_mdio_length mdiov.Value = refl
-mdio_mdio_length (mdiov.Cycling x0 x1) = simp (length-append, mdio_place_length, cycle_length)
-mdio_mdio_length mdiov.Data = refl
+mdio_length mdiov.Value = refl
+mdio_length (mdiov.Cycling x0 x1) = simp (length-append, mdio_place_length, cycle_length)
+mdio_length mdiov.Data = refl
 
-pub drop_mdio_mdio : (s : Mdio) (rest : List ℕ) → drop 4 (words_mdio s ++ rest) ≡ rest
-drop_mdio_mdio s rest = drop_at (words_mdio s) rest 4 (mdio_mdio_length s)
+pub drop_mdio : (s : Mdio) (rest : List ℕ) → drop 4 (words_mdio s ++ rest) ≡ rest
+drop_mdio s rest = drop_at (words_mdio s) rest 4 (mdio_length s)

@@ -31,15 +31,15 @@ idle_length (idlev.Waiting x0 x1) = refl
 pub drop_idle : (s : Idle) (rest : List ℕ) → drop 3 (words_idle s ++ rest) ≡ rest
 drop_idle s rest = drop_at (words_idle s) rest 3 (idle_length s)
 
-pub sideband_kr_length : (s : Kr) → length (words_kr s) ≡ 4
+pub kr_length : (s : Kr) → length (words_kr s) ≡ 4
 unfolding words_kr
-sideband_kr_length (krv.First x0) = simp idle_length
-sideband_kr_length krv.Select = refl
-sideband_kr_length (krv.Second x0) = simp idle_length
-sideband_kr_length krv.Data = refl
+kr_length (krv.First x0) = simp idle_length
+kr_length krv.Select = refl
+kr_length (krv.Second x0) = simp idle_length
+kr_length krv.Data = refl
 
-pub drop_sideband_kr : (s : Kr) (rest : List ℕ) → drop 4 (words_kr s ++ rest) ≡ rest
-drop_sideband_kr s rest = drop_at (words_kr s) rest 4 (sideband_kr_length s)
+pub drop_kr : (s : Kr) (rest : List ℕ) → drop 4 (words_kr s ++ rest) ≡ rest
+drop_kr s rest = drop_at (words_kr s) rest 4 (kr_length s)
 
 pub nvm_length : (s : Nvm) → length (words_nvm s) ≡ 5
 unfolding words_nvm

@@ -21,7 +21,7 @@ use Rattle.sync.specs.declared.set_mux.SetMux.{SetMux}
 use Rattle.sync.specs.declared.sync.Sync.TheVariants as syncv
 use Rattle.sync.specs.declared.sync.Sync.{Sync}
 use Rattle.packed_access.specs.Sync.{words_smbi, words_clear, words_lock, words_unlock, words_set_mux, words_acquire_bits, words_release_bits, words_sync}
-use Rattle.packed_access.proofs.Width.Hardware.{unit_length}
+use Rattle.packed_access.proofs.Width.Hardware.{nothing_or_error_length}
 
 pub smbi_length : (s : Smbi) → length (words_smbi s) ≡ 2
 unfolding words_smbi
@@ -73,7 +73,7 @@ unfolding words_acquire_bits
 acquire_bits_length (acquire_bitsv.Locking x0 x1) = simp (length-append, lock_length)
 acquire_bits_length (acquire_bitsv.Reading x0) = refl
 acquire_bits_length acquire_bitsv.Writing = refl
-acquire_bits_length (acquire_bitsv.Ending x0 x1) = simp (length-append, unit_length, unlock_length)
+acquire_bits_length (acquire_bitsv.Ending x0 x1) = simp (length-append, nothing_or_error_length, unlock_length)
 acquire_bits_length (acquire_bitsv.Held x0 x1 x2) = simp (length-append, unlock_length)
 acquire_bits_length (acquire_bitsv.Waiting x0 x1) = refl
 acquire_bits_length (acquire_bitsv.Switching x0) = simp (length-append, set_mux_length)
@@ -86,7 +86,7 @@ unfolding words_release_bits
 release_bits_length (release_bitsv.Switching x0) = simp (length-append, set_mux_length)
 release_bits_length (release_bitsv.Locking x0) = simp (length-append, lock_length)
 release_bits_length (release_bitsv.Clearing x0) = simp (length-append, clear_length)
-release_bits_length (release_bitsv.Unlocking x0 x1) = simp (length-append, unit_length, unlock_length)
+release_bits_length (release_bitsv.Unlocking x0 x1) = simp (length-append, nothing_or_error_length, unlock_length)
 release_bits_length release_bitsv.Waiting = refl
 
 pub drop_release_bits : (s : ReleaseBits) (rest : List ℕ) → drop 9 (words_release_bits s ++ rest) ≡ rest

@@ -13,7 +13,8 @@ use Rattle.operations.specs.declared.registers.Mdio.{Mdio}
 use Rattle.packed_after.specs.Operations.{words_mdio, words_kr, words_after}
 use Rattle.packed_after.proofs.Width.Phy.{maybe_flag_length}
 use Rattle.packed_after.proofs.Width.Watch.{poll_length}
-use Rattle.packed_answers.proofs.Width.Answers.{internal_length, maybe_status_length, maybe_word_length}
+use Rattle.packed_answers.proofs.Width.Answers.{internal_length, maybe_half_length}
+use Rattle.packed_answers.proofs.Width.Words.{maybe_word_length}
 use Rattle.packed_bringup.proofs.Width.Activity.{activity_length}
 use Rattle.packed_bringup.proofs.Width.Bringup.{bringup_length}
 use Rattle.packed_bringup.proofs.Width.Kr.{kr_modify_length, kr_place_length}
@@ -53,7 +54,7 @@ after_length (afterv.Activity x0 x1) = simp (length-append, activity_length)
 after_length (afterv.Mdio x0) = simp (length-append, operations_mdio_length)
 after_length (afterv.Kr x0) = simp (length-append, operations_kr_length)
 after_length (afterv.Bringup x0 x1) = simp bringup_length
-after_length (afterv.Poll x0 x1) = simp (length-append, internal_length, maybe_status_length, poll_length)
+after_length (afterv.Poll x0 x1) = simp (length-append, internal_length, maybe_half_length, poll_length)
 
 pub drop_after : (s : After) (rest : List ℕ) → drop 20 (words_after s ++ rest) ≡ rest
 drop_after s rest = drop_at (words_after s) rest 20 (after_length s)

@@ -4,14 +4,12 @@ use mathlib.Core.Path.{◌≡◌, refl}
 use mathlib.Core.List.{List, ◌++◌}
 use lib.ListN.{length, drop}
 use lib.Seq.{drop_at}
-use Rattle.phy.specs.declared.advertise.MaybeFlag.TheVariants as maybe_flagv
-use Rattle.phy.specs.declared.advertise.MaybeFlag.{MaybeFlag}
-use Rattle.packed_after.specs.Phy.{words_maybe_flag}
+use Rattle.std.specs.Prelude.{Bool, Option}
+use Rattle.packed_access.proofs.Parts.{option_length}
+use Rattle.packed_access.specs.Packed.{words_flag, words_option}
 
-pub maybe_flag_length : (s : MaybeFlag) → length (words_maybe_flag s) ≡ 2
-unfolding words_maybe_flag
-maybe_flag_length maybe_flagv.Nothing = refl
-maybe_flag_length (maybe_flagv.Is x0) = refl
+pub maybe_flag_length : (s : Option Bool) → length (words_option 1 words_flag s) ≡ 2
+maybe_flag_length = option_length _ (λ _. refl)
 
-pub drop_maybe_flag : (s : MaybeFlag) (rest : List ℕ) → drop 2 (words_maybe_flag s ++ rest) ≡ rest
-drop_maybe_flag s rest = drop_at (words_maybe_flag s) rest 2 (maybe_flag_length s)
+pub drop_maybe_flag : (s : Option Bool) (rest : List ℕ) → drop 2 (words_option 1 words_flag s ++ rest) ≡ rest
+drop_maybe_flag s rest = drop_at (words_option 1 words_flag s) rest 2 (maybe_flag_length s)

@@ -7,7 +7,7 @@ use lib.Seq.{drop_at}
 use Rattle.watch.specs.declared.poll.Poll.TheVariants as pollv
 use Rattle.watch.specs.declared.poll.Poll.{Poll}
 use Rattle.packed_after.specs.Watch.{words_poll}
-use Rattle.packed_answers.proofs.Width.Answers.{maybe_word_length}
+use Rattle.packed_answers.proofs.Width.Words.{maybe_word_length}
 use Rattle.packed_bringup.proofs.Width.Kr.{kr_modify_length, kr_place_length}
 use Rattle.packed_bringup.proofs.Width.Phy.{an_link_length}
 

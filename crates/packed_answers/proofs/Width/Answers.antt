@@ -4,35 +4,29 @@ use mathlib.Core.Path.{◌≡◌, refl}
 use mathlib.Core.List.{List, ◌++◌}
 use lib.ListN.{length, drop, length-append}
 use lib.Seq.{drop_at}
-use Rattle.answers.specs.declared.Answer.TheVariants as answerv
-use Rattle.answers.specs.declared.Answer.{Answer}
+use Rattle.std.specs.Prelude.{Option, Result, Ok, Err}
 use Rattle.answers.specs.declared.Copper.TheVariants as copperv
 use Rattle.answers.specs.declared.Copper.{Copper}
 use Rattle.answers.specs.declared.Internal.TheVariants as internalv
 use Rattle.answers.specs.declared.Internal.{Internal}
-use Rattle.answers.specs.declared.MaybeStatus.TheVariants as maybe_statusv
-use Rattle.answers.specs.declared.MaybeStatus.{MaybeStatus}
-use Rattle.answers.specs.declared.MaybeWord.TheVariants as maybe_wordv
-use Rattle.answers.specs.declared.MaybeWord.{MaybeWord}
-use Rattle.answers.specs.declared.Scanned.TheVariants as scannedv
-use Rattle.answers.specs.declared.Scanned.{Scanned}
 use Rattle.answers.specs.declared.Setup552.TheVariants as setup552v
 use Rattle.answers.specs.declared.Setup552.{Setup552}
 use Rattle.answers.specs.declared.Setup553.TheVariants as setup553v
 use Rattle.answers.specs.declared.Setup553.{Setup553}
 use Rattle.answers.specs.declared.Value.TheVariants as valuev
 use Rattle.answers.specs.declared.Value.{Value}
-use Rattle.packed_answers.specs.Answers.{words_scanned, words_internal, words_setup552, words_maybe_word, words_setup553, words_copper, words_maybe_status, words_value, words_answer}
-use Rattle.packed_access.proofs.Width.Hardware.{error_length}
-use Rattle.packed_answers.proofs.Width.Words.{link_length, phy_id_length}
+use Rattle.hardware.specs.declared.Error.{Error}
+use Rattle.packed_answers.specs.Answers.{words_internal, words_setup552, words_setup553, words_copper, words_value, words_value_or_error}
+use Rattle.packed_access.specs.Hardware.{error_length}
+use Rattle.packed_answers.proofs.Width.Words.{link_length, maybe_word_length}
+use Rattle.packed_access.proofs.Parts.{option_length}
+use Rattle.packed_access.specs.Packed.{words_word, words_pair, words_option}
 
-pub scanned_length : (s : Scanned) → length (words_scanned s) ≡ 3
-unfolding words_scanned
-scanned_length scannedv.Nothing = refl
-scanned_length (scannedv.At x0 x1) = refl
+pub maybe_byte_word_length : (s : Option (ℕ × ℕ)) → length (words_option 2 (words_pair words_word words_word) s) ≡ 3
+maybe_byte_word_length = option_length _ (λ _. refl)
 
-pub drop_scanned : (s : Scanned) (rest : List ℕ) → drop 3 (words_scanned s ++ rest) ≡ rest
-drop_scanned s rest = drop_at (words_scanned s) rest 3 (scanned_length s)
+pub drop_maybe_byte_word : (s : Option (ℕ × ℕ)) (rest : List ℕ) → drop 3 (words_option 2 (words_pair words_word words_word) s ++ rest) ≡ rest
+drop_maybe_byte_word s rest = drop_at (words_option 2 (words_pair words_word words_word) s) rest 3 (maybe_byte_word_length s)
 
 pub internal_length : (s : Internal) → length (words_internal s) ≡ 1
 unfolding words_internal
@@ -53,14 +47,6 @@ setup552_length (setup552v.Copper x0) = simp internal_length
 
 pub drop_setup552 : (s : Setup552) (rest : List ℕ) → drop 11 (words_setup552 s ++ rest) ≡ rest
 drop_setup552 s rest = drop_at (words_setup552 s) rest 11 (setup552_length s)
-
-pub maybe_word_length : (s : MaybeWord) → length (words_maybe_word s) ≡ 2
-unfolding words_maybe_word
-maybe_word_length maybe_wordv.Nothing = refl
-maybe_word_length (maybe_wordv.Is x0) = refl
-
-pub drop_maybe_word : (s : MaybeWord) (rest : List ℕ) → drop 2 (words_maybe_word s ++ rest) ≡ rest
-drop_maybe_word s rest = drop_at (words_maybe_word s) rest 2 (maybe_word_length s)
 
 pub setup553_length : (s : Setup553) → length (words_setup553 s) ≡ 12
 unfolding words_setup553
@@ -83,13 +69,11 @@ copper_length (copperv.Invalid x0) = refl
 pub drop_copper : (s : Copper) (rest : List ℕ) → drop 2 (words_copper s ++ rest) ≡ rest
 drop_copper s rest = drop_at (words_copper s) rest 2 (copper_length s)
 
-pub maybe_status_length : (s : MaybeStatus) → length (words_maybe_status s) ≡ 2
-unfolding words_maybe_status
-maybe_status_length maybe_statusv.Nothing = refl
-maybe_status_length (maybe_statusv.Is x0) = refl
+pub maybe_half_length : (s : Option ℕ) → length (words_option 1 words_word s) ≡ 2
+maybe_half_length = option_length _ (λ _. refl)
 
-pub drop_maybe_status : (s : MaybeStatus) (rest : List ℕ) → drop 2 (words_maybe_status s ++ rest) ≡ rest
-drop_maybe_status s rest = drop_at (words_maybe_status s) rest 2 (maybe_status_length s)
+pub drop_maybe_half : (s : Option ℕ) (rest : List ℕ) → drop 2 (words_option 1 words_word s ++ rest) ≡ rest
+drop_maybe_half s rest = drop_at (words_option 1 words_word s) rest 2 (maybe_half_length s)
 
 pub value_length : (s : Value) → length (words_value s) ≡ 13
 unfolding words_value
@@ -99,20 +83,20 @@ value_length (valuev.Word x0) = refl
 value_length (valuev.Link x0) = simp (length-append, link_length)
 value_length (valuev.Command x0 x1) = refl
 value_length (valuev.Activity x0) = refl
-value_length (valuev.Probe x0) = simp (length-append, phy_id_length)
-value_length (valuev.Scan x0) = simp (length-append, scanned_length)
+value_length (valuev.Probe x0) = simp (length-append, maybe_word_length)
+value_length (valuev.Scan x0) = simp (length-append, maybe_byte_word_length)
 value_length (valuev.Abilities x0) = refl
 value_length (valuev.X552 x0) = simp (length-append, setup552_length)
 value_length (valuev.X553 x0) = simp setup553_length
-value_length (valuev.Poll x0 x1 x2) = simp (length-append, copper_length, maybe_status_length)
+value_length (valuev.Poll x0 x1 x2) = simp (length-append, copper_length, maybe_half_length)
 
 pub drop_value : (s : Value) (rest : List ℕ) → drop 13 (words_value s ++ rest) ≡ rest
 drop_value s rest = drop_at (words_value s) rest 13 (value_length s)
 
-pub answer_length : (s : Answer) → length (words_answer s) ≡ 14
-unfolding words_answer
-answer_length (answerv.Ok x0) = simp value_length
-answer_length (answerv.Err x0) = simp (length-append, error_length)
+pub value_or_error_length : (s : Result Value Error) → length (words_value_or_error s) ≡ 14
+unfolding words_value_or_error
+value_or_error_length (Ok x0) = simp value_length
+value_or_error_length (Err x0) = simp (length-append, error_length)
 
-pub drop_answer : (s : Answer) (rest : List ℕ) → drop 14 (words_answer s ++ rest) ≡ rest
-drop_answer s rest = drop_at (words_answer s) rest 14 (answer_length s)
+pub drop_value_or_error : (s : Result Value Error) (rest : List ℕ) → drop 14 (words_value_or_error s ++ rest) ≡ rest
+drop_value_or_error s rest = drop_at (words_value_or_error s) rest 14 (value_or_error_length s)

@@ -9,7 +9,8 @@ use Rattle.bringup.specs.declared.Bringup.{Bringup}
 use Rattle.bringup.specs.declared.Lane.TheVariants as lanev
 use Rattle.bringup.specs.declared.Lane.{Lane}
 use Rattle.packed_bringup.specs.Bringup.{words_lane, words_bringup}
-use Rattle.packed_answers.proofs.Width.Answers.{internal_length, maybe_word_length}
+use Rattle.packed_answers.proofs.Width.Answers.{internal_length}
+use Rattle.packed_answers.proofs.Width.Words.{maybe_word_length}
 use Rattle.packed_bringup.proofs.Width.Kr.{kr_modify_length, kr_place_length}
 use Rattle.packed_bringup.proofs.Width.Phy.{clock_length}
 use Rattle.packed_bringup.proofs.Width.X552.{copper_link_length, prepare_copper_length}

@@ -9,7 +9,7 @@ use Rattle.x552.specs.declared.link.CopperLink.{CopperLink}
 use Rattle.x552.specs.declared.prepare.PrepareCopper.TheVariants as prepare_copperv
 use Rattle.x552.specs.declared.prepare.PrepareCopper.{PrepareCopper}
 use Rattle.packed_bringup.specs.X552.{words_prepare_copper, words_copper_link}
-use Rattle.packed_answers.proofs.Width.Answers.{maybe_word_length}
+use Rattle.packed_answers.proofs.Width.Words.{maybe_word_length}
 use Rattle.packed_bringup.proofs.Width.Kr.{kr_modify_length, kr_place_length}
 use Rattle.packed_bringup.proofs.Width.Phy.{advertise_place_length, an_link_length, clock_length, modify_length, probe_length, reset_length}
 

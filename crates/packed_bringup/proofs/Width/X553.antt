@@ -15,7 +15,7 @@ use Rattle.x553.specs.declared.sgmii.Sgmii.{Sgmii}
 use Rattle.x553.specs.declared.sgmii_an.SgmiiAn.TheVariants as sgmii_anv
 use Rattle.x553.specs.declared.sgmii_an.SgmiiAn.{SgmiiAn}
 use Rattle.packed_bringup.specs.X553.{words_firmware_place, words_prepare_firmware, words_sgmii, words_sgmii_an, words_setup_firmware}
-use Rattle.packed_answers.proofs.Width.Answers.{maybe_word_length}
+use Rattle.packed_answers.proofs.Width.Words.{maybe_word_length}
 use Rattle.packed_bringup.proofs.Width.Activity.{activity_length}
 use Rattle.packed_bringup.proofs.Width.Kr.{kr_modify_length, kr_place_length}
 

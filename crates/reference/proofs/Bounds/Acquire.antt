@@ -1,11 +1,12 @@
 -- sync.rs with TOKEN: actions and microseconds at the most
+use Rattle.std.specs.Prelude.{Ok, Err}
 use Prim.Native.Nat.{ℕ, ◌+◌, ◌^◌, ◌<◌}
 use mathlib.Core.Path.{◌≡◌, sym, subst}
 use mathlib.Core.Bool.{Bool, true, false}
 use native.Mathlib.Omega.{arith}
 use lib.Dec.{eqb}
 use Rattle.hardware.specs.Bound.{Within, at_end}
-use Rattle.hardware.specs.Talk.{Talk, Call, Res, ok, err, is_clear, fail}
+use Rattle.hardware.specs.Talk.{Talk, Call, Res, is_clear, fail}
 use Rattle.hardware.specs.declared.Error.TheVariants.{Firmware}
 use Rattle.hardware.specs.declared.Port.{Port}
 use Rattle.hardware.proofs.Bounds.{within_more, within_pick, within_times}
@@ -29,9 +30,9 @@ module _ (port : Port) (hw : ℕ) (t : Call (Unit {0})) (n m : ℕ) (w : Within 
 
   got : (granted : Res Bool) → Within (acquire_got port hw t granted) (8015 + n) (207000 + m)
   unfolding acquire_got
-  got (ok true) = at_end
-  got (ok false) = given (ok false)
-  got (err e) = given (err e)
+  got (Ok true) = at_end
+  got (Ok false) = given (Ok false)
+  got (Err e) = given (Err e)
 
   asked : Within (acquire_ask port hw t) (8129100 + n) (205909000 + m)
   unfolding acquire_ask
@@ -55,7 +56,7 @@ release_rest_lem port hw token = within_pick (eqb hw 0) at_end (of_bind (of_rele
 pub of_release : (port : Port) (mask : ℕ) → Within (release port mask) 8129099 205904000
 unfolding release
 of_release port mask =
-    within_pick (is_clear mask 0x40000000) (within_more (omega arith) (omega arith) (release_rest_lem port (hw_of mask) (ok tt)))
+    within_pick (is_clear mask 0x40000000) (within_more (omega arith) (omega arith) (release_rest_lem port (hw_of mask) (Ok tt)))
     (of_attempt (of_token port false) (λ given. release_rest_lem port (hw_of mask) (forget given)))
 
 -- a body under any mask

@@ -1,19 +1,15 @@
 -- mdio.rs: actions and microseconds at the most
+use Rattle.std.specs.Prelude.{Ok, Option, None, Some}
 use Prim.Native.Nat.{ℕ, ◌+◌}
 use mathlib.Core.Bool.{Bool, ◌||◌}
-use mathlib.Core.Option.{Option}
 use native.Mathlib.Omega.{arith}
 use lib.Dec.{eqb}
 use Rattle.hardware.specs.Bound.{Within, at_end}
-use Rattle.hardware.specs.Talk.{Call, ok, is_clear, return, fail}
+use Rattle.hardware.specs.Talk.{Call, is_clear, return, fail}
 use Rattle.hardware.specs.declared.Error.TheVariants.{Timeout}
 use Rattle.hardware.specs.declared.Port.{Port}
 use Rattle.hardware.proofs.Bounds.{within_more, within_pick, within_times}
 use Rattle.words.specs.Mdio.{address}
-use Rattle.words.specs.declared.phy.PhyId.{PhyId}
-use Rattle.words.specs.declared.phy.PhyId.TheVariants as phyidv
-use Rattle.answers.specs.declared.Scanned.{Scanned}
-use Rattle.answers.specs.declared.Scanned.TheVariants as scannedv
 use Rattle.answers.specs.declared.Speeds.{Speeds}
 use Rattle.reference.specs.Sync.{plain}
 use Rattle.reference.specs.Mdio.{cycle_turn, cycle, mask, read_body, read_reg, write_body, write_reg, modify, probe_high, probe, scan_found, scan_turn, scan, reset_last, reset_done, reset_turn, reset, abilities, advertise, an_link}
@@ -23,7 +19,7 @@ use Rattle.reference.proofs.Bounds.Acquire.{of_locked}
 cycle_turn_lem : (f : ℕ → Call (Unit {0})) (n m : ℕ) → ((last : ℕ) → Within (f last) n m) → (last : ℕ) → Within (cycle_turn f last) (2 + n) (10 + m)
 cycle_turn_lem f n m w _ =
     within_more (omega arith) (omega arith)
-    (of_bind (of_delay 10) (λ _. of_bind (of_read 0x425c) (λ v. within_pick (is_clear v 0x40000000) (at_end {a = ok tt}) (w v))))
+    (of_bind (of_delay 10) (λ _. of_bind (of_read 0x425c) (λ v. within_pick (is_clear v 0x40000000) (at_end {a = Ok tt}) (w v))))
 
 of_cycle : (command : ℕ) → Within (cycle command) 201 1000
 unfolding cycle
@@ -59,18 +55,18 @@ unfolding probe
 of_probe port phy = of_bind (of_read_reg port phy 1 2) (probe_high_lem port phy)
 
 -- 64
-scan_found_lem : (f : ℕ → Call Scanned) (n m : ℕ) → ((phy : ℕ) → Within (f phy) n m) → (phy : ℕ) (id : PhyId) → Within (scan_found f phy id) n m
-scan_found_lem f n m w phy phyidv.Nothing = w (phy + 1)
-scan_found_lem f n m w phy (phyidv.Id id) = at_end
+scan_found_lem : (f : ℕ → Call (Option (ℕ × ℕ))) (n m : ℕ) → ((phy : ℕ) → Within (f phy) n m) → (phy : ℕ) (id : Option ℕ) → Within (scan_found f phy id) n m
+scan_found_lem f n m w phy None = w (phy + 1)
+scan_found_lem f n m w phy (Some id) = at_end
 
-scan_turn_lem : (port : Port) (f : ℕ → Call Scanned) (n m : ℕ) → ((phy : ℕ) → Within (f phy) n m) → (phy : ℕ)
+scan_turn_lem : (port : Port) (f : ℕ → Call (Option (ℕ × ℕ))) (n m : ℕ) → ((phy : ℕ) → Within (f phy) n m) → (phy : ℕ)
     → Within (scan_turn port f phy) (32300459004 + n) (822229812000 + m)
 scan_turn_lem port f n m w phy = of_bind (of_probe port phy) (scan_found_lem f n m w phy)
 
 pub of_scan : (port : Port) → Within (scan port) 1033614688128 26311353984000
 unfolding scan
 of_scan port =
-    of_carry (scan_turn port) (λ _. return scannedv.Nothing) 32300459004 822229812000 32 0 0 (scan_turn_lem port) (λ _. at_end) 0
+    of_carry (scan_turn port) (λ _. return None) 32300459004 822229812000 32 0 0 (scan_turn_lem port) (λ _. at_end) 0
 
 reset_last_lem : (port : Port) (phy : ℕ) → Within (reset_last port phy) 16150229502 411114906000
 reset_last_lem port phy = of_bind (of_read_reg port phy 4 0) (λ v. within_pick (is_clear v 0x8000) of_end of_end)

@@ -1,10 +1,11 @@
 -- sync.rs: actions and microseconds at the most
+use Rattle.std.specs.Prelude.{Ok, Err}
 use Prim.Native.Nat.{ℕ, ◌+◌, ◌≤◌}
 use mathlib.Core.Bool.{Bool, true, false}
 use native.Mathlib.Omega.{arith}
 use lib.Bits.{bit_and}
 use Rattle.hardware.specs.Bound.{Within, at_end}
-use Rattle.hardware.specs.Talk.{Call, Res, ok, err, pick, is_clear, fail}
+use Rattle.hardware.specs.Talk.{Call, Res, pick, is_clear, fail}
 use Rattle.hardware.specs.declared.Error.TheVariants.{Semaphore}
 use Rattle.hardware.specs.declared.Port.{Port}
 use Rattle.hardware.proofs.Bounds.{within_more, within_pick, within_times}
@@ -50,8 +51,8 @@ acquire_taken switch = within_pick switch (of_mux true) at_end
 
 acquire_got_lem : (pair : Regs) (want : Bits) (switch : Bool) (f : ℕ → Call (Unit {0})) (n m : ℕ)
     → ((held : ℕ) → Within (f held) n m) → (got : Res ℕ) → Within (acquire_bits_got pair want switch f got) (9 + n) (5000 + m)
-acquire_got_lem pair want switch f n m w (err e) = within_more (omega arith) (omega arith) (of_bind (of_unlock pair) (λ _. of_end))
-acquire_got_lem pair want switch f n m w (ok v) =
+acquire_got_lem pair want switch f n m w (Err e) = within_more (omega arith) (omega arith) (of_bind (of_unlock pair) (λ _. of_end))
+acquire_got_lem pair want switch f n m w (Ok v) =
     within_pick (is_clear v (busy want))
     (within_more (omega arith) (omega arith)
     (of_attempt (of_write pair.sync _)

@@ -1,26 +1,22 @@
 -- x552.rs: actions and microseconds at the most, for a pause of up to 100 microseconds
+use Rattle.std.specs.Prelude.{Ok, Option, None, Some}
 use Prim.Native.Nat.{ℕ, ◌+◌, ◌/◌, ◌%◌, ◌^◌, ◌≤◌}
 use mathlib.Core.Path.{refl}
 use mathlib.Core.Bool.{Bool, true, false}
 use mathlib.Core.List.{[], ◌∷◌}
-use mathlib.Core.Option.{none}
 use native.Mathlib.Omega.{arith}
 use lib.Dec.{eqb}
 use Rattle.hardware.specs.Bound.{Within, at_end}
-use Rattle.hardware.specs.Talk.{Call, ok, is_clear, fail}
+use Rattle.hardware.specs.Talk.{Call, is_clear, fail}
 use Rattle.hardware.specs.declared.Error.TheVariants.{Timeout}
 use Rattle.hardware.specs.declared.Family.{Family}
 use Rattle.hardware.specs.declared.Family.TheVariants.{X552, X553}
 use Rattle.hardware.specs.declared.Port.{Port}
 use Rattle.hardware.proofs.Bounds.{within_more, within_pick, within_times}
 use Rattle.words.specs.Hostif.{nvm_address}
-use Rattle.words.specs.declared.phy.PhyId.{PhyId}
-use Rattle.words.specs.declared.phy.PhyId.TheVariants as phyidv
 use Rattle.answers.specs.declared.CopperSetup.{CopperSetup}
 use Rattle.answers.specs.declared.Internal.{Internal}
 use Rattle.answers.specs.declared.Internal.TheVariants.{Ixfi, Kr}
-use Rattle.answers.specs.declared.Scanned.{Scanned}
-use Rattle.answers.specs.declared.Scanned.TheVariants as scannedv
 use Rattle.answers.specs.declared.Speeds.{Speeds}
 use Rattle.answers.specs.declared.X557.{X557}
 use Rattle.reference.specs.Sync.{plain}
@@ -71,7 +67,7 @@ module _ (pause : ℕ) (short : pause ≤ 100) where
   iosf_turn_lem : (f : ℕ → Call ℕ) (n m : ℕ) → ((last : ℕ) → Within (f last) n m) → (last : ℕ) → Within (iosf_turn pause f last) (2 + n) (100 + m)
   iosf_turn_lem f n m w _ =
       within_more (omega arith) (omega arith)
-      (of_bind (of_raw 0x11144) (λ v. within_pick (is_clear v 0x80000000) (at_end {a = ok v}) (of_bind (of_delay pause) (λ _. w v))))
+      (of_bind (of_raw 0x11144) (λ v. within_pick (is_clear v 0x80000000) (at_end {a = Ok v}) (of_bind (of_delay pause) (λ _. w v))))
 
   of_idle : Within (iosf_idle pause) 200 10000
   unfolding iosf_idle
@@ -165,13 +161,13 @@ module _ (port : Port) (veto : Bool) where
   prepare_found_lem : (phy id sel : ℕ) → Within (prepare_found port veto phy id sel) 1049764917690 26722471890060
   prepare_found_lem phy id sel = of_bind (of_read_reg port phy 1 0xcc02) (prepare_alarms_lem phy id sel)
 
-  prepare_probed_lem : (sel phy : ℕ) (found : PhyId) → Within (prepare_probed port veto sel phy found) 1049764917690 26722471890060
-  prepare_probed_lem sel phy phyidv.Nothing = at_end
-  prepare_probed_lem sel phy (phyidv.Id id) = prepare_found_lem phy id sel
+  prepare_probed_lem : (sel phy : ℕ) (found : Option ℕ) → Within (prepare_probed port veto sel phy found) 1049764917690 26722471890060
+  prepare_probed_lem sel phy None = at_end
+  prepare_probed_lem sel phy (Some id) = prepare_found_lem phy id sel
 
-  prepare_scanned_lem : (sel : ℕ) (found : Scanned) → Within (prepare_scanned port veto sel found) 1049764917690 26722471890060
-  prepare_scanned_lem sel scannedv.Nothing = at_end
-  prepare_scanned_lem sel (scannedv.At phy id) = prepare_found_lem phy id sel
+  prepare_scanned_lem : (sel : ℕ) (found : Option (ℕ × ℕ)) → Within (prepare_scanned port veto sel found) 1049764917690 26722471890060
+  prepare_scanned_lem sel None = at_end
+  prepare_scanned_lem sel (Some (phy, id)) = prepare_found_lem phy id sel
 
   prepare_sel_lem : (sel : ℕ) → Within (prepare_sel port veto sel) 2083379605818 53033825874060
   prepare_sel_lem sel =
@@ -183,7 +179,7 @@ module _ (port : Port) (veto : Bool) where
   of_prepare_copper = of_bind (of_clock false) (λ _. of_bind (of_read 0x11178) prepare_sel_lem)
 
   copper_advertise_lem : (x : X557) (s : Speeds) → Within (copper_advertise port veto x s) 129201836016 3288919248000
-  copper_advertise_lem x s = of_bind (of_advertise port x.phy s none veto) (λ restarted. of_end)
+  copper_advertise_lem x s = of_bind (of_advertise port x.phy s None veto) (λ restarted. of_end)
 
   copper_turn_lem : (x : X557) (s : Speeds) (t : Call CopperSetup) (n m : ℕ) → Within t n m
       → Within (copper_turn port x.phy (copper_advertise port veto x s) t) (161502295022 + n) (4111149160000 + m)

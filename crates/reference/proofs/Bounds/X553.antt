@@ -1,4 +1,5 @@
 -- x553.rs and `Watch`: actions and microseconds at the most, for a pause of up to 100 microseconds
+use Rattle.std.specs.Prelude.{Option, None, Some}
 use Prim.Native.Nat.{ℕ, ◌+◌, ◌%◌, ◌≤◌}
 use mathlib.Core.Bool.{Bool, true, false, not, ◌||◌}
 use native.Mathlib.Omega.{arith}
@@ -8,14 +9,9 @@ use Rattle.hardware.specs.Talk.{Call, is_clear}
 use Rattle.hardware.specs.declared.Port.{Port}
 use Rattle.hardware.proofs.Bounds.{within_more, within_pick}
 use Rattle.words.specs.Link as words
-use Rattle.words.specs.declared.link.Megabits.{Megabits}
-use Rattle.words.specs.declared.link.Megabits.TheVariants as megabitsv
 use Rattle.answers.specs.declared.FirmwarePhy.{FirmwarePhy}
 use Rattle.answers.specs.declared.Internal.{Internal}
 use Rattle.answers.specs.declared.Internal.TheVariants.{Ixfi, Kr}
-use Rattle.answers.specs.declared.MaybeStatus.{MaybeStatus}
-use Rattle.answers.specs.declared.MaybeWord.{MaybeWord}
-use Rattle.answers.specs.declared.MaybeWord.TheVariants as maybev
 use Rattle.reference.specs.X552 as x552
 use Rattle.reference.specs.X553.{
   firmware_phy,
@@ -86,14 +82,14 @@ of_prepare port veto {k = k} {n = n} {m = m} h = within_more (omega arith) (omeg
         (within_pick (firmware_phy port.device) (within_more (omega arith) (omega arith) (of_bind (of_prepare_firmware port veto) h))
         (within_more {n = n} {m = m} (omega arith) (omega arith) (h nothing)))
 
-firmware_down_lem : (port : Port) (phy : FirmwarePhy) (internal : MaybeWord) → Within (firmware_down port phy internal) 406054500 10285101000
+firmware_down_lem : (port : Port) (phy : FirmwarePhy) (internal : Option ℕ) → Within (firmware_down port phy internal) 406054500 10285101000
 firmware_down_lem port phy internal = of_bind (of_activity port 4 1 0 0 0) (λ _. of_end)
 
 firmware_linked_lem : (port : Port) (phy : FirmwarePhy) (flx : ℕ) (down : Bool) → Within (firmware_linked port phy flx down) 812109000 20570202000
 firmware_linked_lem port phy flx down =
-    within_pick down (within_more (omega arith) (omega arith) (firmware_down_lem port phy (maybev.Is flx)))
+    within_pick down (within_more (omega arith) (omega arith) (firmware_down_lem port phy (Some flx)))
     (of_bind (of_activity port 3 0 0 0 0)
-    (λ info. within_pick (is_clear info.w0 0x2000000) at_end (firmware_down_lem port phy (maybev.Is flx))))
+    (λ info. within_pick (is_clear info.w0 0x2000000) at_end (firmware_down_lem port phy (Some flx))))
 
 module _ (pause : ℕ) (short : pause ≤ 100) (port : Port) where
   of_sgmii : Within (sgmii pause port) 80214160 2052220000
@@ -118,7 +114,7 @@ module _ (pause : ℕ) (short : pause ≤ 100) (port : Port) where
   of_setup_firmware : (phy : FirmwarePhy) (down : Bool) → Within (setup_firmware pause port phy down) 1306399076 33112745000
   unfolding setup_firmware
   of_setup_firmware phy down =
-      within_pick down (within_more (omega arith) (omega arith) (firmware_down_lem port phy maybev.Nothing))
+      within_pick down (within_more (omega arith) (omega arith) (firmware_down_lem port phy None))
       (of_bind of_sgmii_an (λ flx. of_bind (of_fw_link port phy.speeds) (firmware_linked_lem port phy flx)))
 
   setup_prepared_lem : (veto : Bool) (p : Prepared) → Within (setup_prepared pause port veto p) 1760487315562 44814398862000
@@ -147,20 +143,20 @@ module _ (pause : ℕ) (short : pause ≤ 100) (port : Port) where
       within_more (omega arith) (omega arith) (of_bind (of_autoneg pause short port true true) (λ _. of_end))
   poll_force_lem reforced status megabits Ixfi = of_bind (of_ixfi pause short port (eqb megabits 10000)) (λ _. of_end)
 
-  poll_speed_lem : (internal : Internal) (forced : MaybeStatus) (reforced status : ℕ) (speed : Megabits)
+  poll_speed_lem : (internal : Internal) (forced : Option ℕ) (reforced status : ℕ) (speed : Option ℕ)
       → Within (poll_speed pause port internal forced reforced status speed) 112299824 2873108000
-  poll_speed_lem internal forced reforced status megabitsv.Nothing = at_end
-  poll_speed_lem internal forced reforced status (megabitsv.Is megabits) =
+  poll_speed_lem internal forced reforced status None = at_end
+  poll_speed_lem internal forced reforced status (Some megabits) =
       within_pick (is_forced forced status) at_end (poll_force_lem reforced status megabits internal)
 
-  poll_up_lem : (phy : ℕ) (internal : Internal) (forced : MaybeStatus) (reforced : ℕ)
+  poll_up_lem : (phy : ℕ) (internal : Internal) (forced : Option ℕ) (reforced : ℕ)
       → Within (poll_up pause port phy internal forced reforced) 48562988330 1236217826000
   poll_up_lem phy internal forced reforced =
       of_bind (of_read_reg port phy 7 0xc800)
       (λ v. of_bind (of_an_link port phy)
       (λ up. within_pick up (poll_speed_lem internal forced reforced (v % 8) (words.copper (v % 8))) at_end))
 
-  pub of_poll : (phy : ℕ) (internal : Internal) (forced : MaybeStatus) (reforced : ℕ)
+  pub of_poll : (phy : ℕ) (internal : Internal) (forced : Option ℕ) (reforced : ℕ)
       → Within (poll pause port phy internal forced reforced) 80863447334 2058447638000
   unfolding poll
   of_poll phy internal forced reforced =

@@ -1,14 +1,10 @@
-use Rattle.std.proofs.Common.{length, ◌≤◌, ◌≡◌, ◌++◌, drop}
+use Rattle.std.proofs.Common.{length, ◌≡◌, ◌++◌, drop}
 use Rattle.text.specs.Digits.{last_hex}
 use Rattle.text.proofs.put_hex.Given as goal
 
 -- the digits from i on stand there
 abbrev pub invariant-loop-i : goal.invariant-loop-i
 invariant-loop-i l = record {
-  within : l.i ≤ 8;
   len : length l.text ≡ 8;
   digits : last_hex 8 l.v ≡ last_hex l.i l.rest ++ drop l.i l.text;
 }
-
-abbrev pub decreases-loop-i : goal.decreases-loop-i
-decreases-loop-i l = l.i

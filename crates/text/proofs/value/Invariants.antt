@@ -1,14 +1,10 @@
-use Rattle.std.proofs.Common.{length, ◌-◌, ◌≤◌, ◌<◌, ◌≡◌, ◌^◌, drop}
+use Rattle.std.proofs.Common.{◌<◌, ◌≡◌, ◌^◌, drop}
 use Rattle.text.specs.Hex.{value}
 use Rattle.text.proofs.value.Given as goal
 
--- the digits before i are worth v
-abbrev pub invariant-loop-i : goal.invariant-loop-i
-invariant-loop-i l = record {
-  within : l.i ≤ length l.word;
-  small : l.v < 16 ^ l.i;
-  rest : value 0 l.word ≡ value l.v (drop l.i l.word);
+-- the digits so far are worth v
+abbrev pub invariant-loop-b : goal.invariant-loop-b
+invariant-loop-b l = record {
+  small : l.v < 16 ^ l.b-index;
+  rest : value 0 l.word ≡ value l.v (drop l.b-index l.word);
 }
-
-abbrev pub decreases-loop-i : goal.decreases-loop-i
-decreases-loop-i l = length l.word - l.i

@@ -6,11 +6,12 @@ use Rattle.border.specs.Held.{words_of, conversation_of}
 use Rattle.border.proofs.Laws.{words_of-length, place_back}
 use Rattle.border.proofs.held.put_conversation.Goals as goal
 
-pub returns : goal.returns
+pub returns-clause-written : goal.returns-clause-written
+unfolding words_of
+returns-clause-written c = filled (c.told-tape ∙ sym (words_of-length c.args.c))
+    (then (rw c.wide.ensures.same at c.word-at.ensures) (then c.word-at-2.ensures (then c.long-at.ensures
+    (then c.long-at-2.ensures (then c.put_family-at.ensures.adds c.put_place.ensures.adds)))))
+
+pub returns-clause-back : goal.returns-clause-back
 unfolding words_of conversation_of word_at
-returns c = (
-  λ room. filled (room ∙ sym (words_of-length c.args.c))
-      (then (rw c.wide.ensures.same at c.word-at.ensures) (then c.word-at-2.ensures (then c.long-at.ensures
-      (then c.long-at-2.ensures (then c.put_family-at.ensures.adds c.put_place.ensures.adds))))),
-  simp (c.wide.ensures.fits, c.put_family-at.ensures.back, drop_family, place_back _ c.put_place.ensures.back, joined_back),
-)
+returns-clause-back c = simp (c.wide.ensures.fits, c.put_family-at.ensures.back, drop_family, place_back _ c.put_place.ensures.back, joined_back)

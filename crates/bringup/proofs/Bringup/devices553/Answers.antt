@@ -17,3 +17,9 @@ returns-in-5575 c = simp (c.vetoed-in-5575.ensures, c.in-5575.is, c.requires, ve
 
 pub returns-in-5576 : goal.returns-in-5576
 returns-in-5576 c = simp (c.copper.ensures, c.in-5576.is, c.requires, bind_assoc)
+
+pub returns-in-5604 : goal.returns-in-5604
+returns-in-5604 c = simp (c.firmware.ensures, c.in-5604.is)
+
+pub returns-in-5605 : goal.returns-in-5605
+returns-in-5605 c = simp (c.firmware-in-5605.ensures, c.in-5605.is)

@@ -3,8 +3,8 @@ use Rattle.conversation.specs.Conversation.{conv_of}
 use Rattle.conversation.proofs.Laws.{at_place, run_lent, within_part, all_ended, all_bad, all_full, all_run}
 use Rattle.conversation.proofs.run.run.Goals as goal
 
-pub returns-in-Ended : goal.returns-in-Ended
-returns-in-Ended c = all_ended _ _ _ _ (at_place c.args.c c.in-Ended.is)
+pub returns-in-Done : goal.returns-in-Done
+returns-in-Done c = all_ended _ _ _ _ (at_place c.args.c c.in-Done.is)
 
 pub returns-then-is_bad : goal.returns-then-is_bad
 returns-then-is_bad c = all_bad _ _ _ _ (at_place c.args.c c.in_default.is) (c.is_bad.ensures ∙ c.if-is_bad.true)

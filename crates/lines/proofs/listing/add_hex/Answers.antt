@@ -1,16 +1,10 @@
 use Rattle.std.proofs.Common.{arith}
 use Rattle.text.proofs.Back.{length_last_hex}
-use Rattle.lines.proofs.ListingLaws.{added_to, never_full}
+use Rattle.lines.proofs.ListingLaws.{added_or}
 use Rattle.lines.proofs.listing.add_hex.Goals as goal
 
-pub returns-in-To-clause-added : goal.returns-in-To-clause-added
-returns-in-To-clause-added c = added_to _ _ _ (omega (arith, length_last_hex 8 c.args.v)) c.put_hex.ensures c.in-To.is
+pub returns-clause-added : goal.returns-clause-added
+returns-clause-added c = added_or _ _ _ (omega (arith, length_last_hex 8 c.args.v)) c.put_hex.ensures c.args.at c.unwrap_or.ensures
 
-pub returns-in-To-clause-value : goal.returns-in-To-clause-value
-returns-in-To-clause-value c = omega (arith, length_last_hex 8 c.args.v, (returns-in-To-clause-added c).place)
-
-pub returns-in-Full-clause-added : goal.returns-in-Full-clause-added
-returns-in-Full-clause-added c = never_full _ _ _ (omega (arith, length_last_hex 8 c.args.v)) c.put_hex.ensures c.in-Full.is
-
-pub returns-in-Full-clause-value : goal.returns-in-Full-clause-value
-returns-in-Full-clause-value c = never_full _ _ _ (omega (arith, length_last_hex 8 c.args.v)) c.put_hex.ensures c.in-Full.is
+pub returns-clause-value : goal.returns-clause-value
+returns-clause-value c = omega (arith, length_last_hex 8 c.args.v, (returns-clause-added c).place)

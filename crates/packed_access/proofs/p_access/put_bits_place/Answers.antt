@@ -14,8 +14,8 @@ returns-in-Taking c = record { adds = rw c.in-Taking.is (then c.word-at-in-Takin
 
 pub returns-in-Freeing : goal.returns-in-Freeing
 unfolding words_bits_place get_bits_place word_at
-returns-in-Freeing c = record { adds = rw c.in-Freeing.is (then c.word-at-in-Freeing.ensures (then c.word-at-in-Freeing-2.ensures c.put_flag.ensures.adds)); back = λ rest. simp (c.in-Freeing.is, c.put_flag.ensures.back) }
+returns-in-Freeing c = record { adds = rw c.in-Freeing.is (then c.word-at-in-Freeing.ensures (then c.word-at-in-Freeing-2.ensures c.put.ensures.adds)); back = λ rest. simp (c.in-Freeing.is, c.put.ensures.back) }
 
 pub returns-in-Giving : goal.returns-in-Giving
 unfolding words_bits_place get_bits_place word_at
-returns-in-Giving c = record { adds = rw c.in-Giving.is (then c.word-at-in-Giving.ensures (then c.put_unit-at.ensures.adds c.word.ensures)); back = λ rest. simp (c.in-Giving.is, c.put_unit-at.ensures.back, append_assoc) }
+returns-in-Giving c = record { adds = rw c.in-Giving.is (then c.word-at-in-Giving.ensures (then c.put-at.ensures.adds c.word.ensures)); back = λ rest. simp (c.in-Giving.is, c.put-at.ensures.back, append_assoc) }

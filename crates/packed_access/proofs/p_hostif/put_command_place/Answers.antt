@@ -9,4 +9,4 @@ returns-in-Acquiring c = record { adds = rw c.in-Acquiring.is (then c.word-at.en
 
 pub returns-in-Releasing : goal.returns-in-Releasing
 unfolding words_command_place get_command_place word_at
-returns-in-Releasing c = record { adds = rw c.in-Releasing.is (then c.word-at-in-Releasing.ensures c.put_word.ensures.adds); back = λ rest. simp (c.in-Releasing.is, c.put_word.ensures.back) }
+returns-in-Releasing c = record { adds = rw c.in-Releasing.is (then c.word-at-in-Releasing.ensures c.put.ensures.adds); back = λ rest. simp (c.in-Releasing.is, c.put.ensures.back) }

@@ -1,6 +1,6 @@
 use mathlib.Core.List.{append_assoc}
 use Rattle.packed_access.proofs.Laws.{then}
-use Rattle.packed_access.proofs.Width.Hardware.{drop_unit}
+use Rattle.packed_access.proofs.Width.Hardware.{drop_nothing_or_error}
 use Rattle.packed_access.specs.Sync.{words_acquire_bits, get_acquire_bits}
 use Rattle.packed_access.specs.Tape.{word_at}
 use Rattle.packed_access.proofs.p_sync.put_acquire_bits.Goals as goal
@@ -19,7 +19,7 @@ returns-in-Writing c = record { adds = rw c.in-Writing.is (then c.word-at-in-Wri
 
 pub returns-in-Ending : goal.returns-in-Ending
 unfolding words_acquire_bits get_acquire_bits word_at
-returns-in-Ending c = record { adds = rw c.in-Ending.is (then c.word-at-in-Ending.ensures (then c.put_unit-at.ensures.adds c.put_unlock.ensures.adds)); back = λ rest. simp (c.in-Ending.is, c.put_unit-at.ensures.back, c.put_unlock.ensures.back, append_assoc, drop_unit) }
+returns-in-Ending c = record { adds = rw c.in-Ending.is (then c.word-at-in-Ending.ensures (then c.put-at.ensures.adds c.put_unlock.ensures.adds)); back = λ rest. simp (c.in-Ending.is, c.put-at.ensures.back, c.put_unlock.ensures.back, append_assoc, drop_nothing_or_error) }
 
 pub returns-in-Held : goal.returns-in-Held
 unfolding words_acquire_bits get_acquire_bits word_at

@@ -1,6 +1,6 @@
 use mathlib.Core.List.{append_assoc}
 use Rattle.packed_access.proofs.Laws.{then}
-use Rattle.packed_access.proofs.Width.Hardware.{drop_unit}
+use Rattle.packed_access.proofs.Width.Hardware.{drop_nothing_or_error}
 use Rattle.packed_access.specs.Sync.{words_release_bits, get_release_bits}
 use Rattle.packed_access.specs.Tape.{word_at}
 use Rattle.packed_access.proofs.p_sync.put_release_bits.Goals as goal
@@ -19,7 +19,7 @@ returns-in-Clearing c = record { adds = rw c.in-Clearing.is (then c.word-at-in-C
 
 pub returns-in-Unlocking : goal.returns-in-Unlocking
 unfolding words_release_bits get_release_bits word_at
-returns-in-Unlocking c = record { adds = rw c.in-Unlocking.is (then c.word-at-in-Unlocking.ensures (then c.put_unit-at.ensures.adds c.put_unlock.ensures.adds)); back = λ rest. simp (c.in-Unlocking.is, c.put_unit-at.ensures.back, c.put_unlock.ensures.back, append_assoc, drop_unit) }
+returns-in-Unlocking c = record { adds = rw c.in-Unlocking.is (then c.word-at-in-Unlocking.ensures (then c.put-at.ensures.adds c.put_unlock.ensures.adds)); back = λ rest. simp (c.in-Unlocking.is, c.put-at.ensures.back, c.put_unlock.ensures.back, append_assoc, drop_nothing_or_error) }
 
 pub returns-in-Waiting : goal.returns-in-Waiting
 unfolding words_release_bits get_release_bits word_at

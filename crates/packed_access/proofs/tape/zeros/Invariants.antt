@@ -1,10 +1,6 @@
-use Prim.Native.Nat.{◌-◌, ◌≤◌}
-use lib.ListN.{replicate}
+use Rattle.std.proofs.Common.{◌≤◌, replicate}
 use Rattle.packed_access.specs.Tape.{Adds}
 use Rattle.packed_access.proofs.tape.zeros.Given as goal
 
-abbrev pub invariant-loop-i : goal.invariant-loop-i
-invariant-loop-i l = (l.i ≤ l.n) × Adds l.at l.initial.tape (replicate l.i 0) l.to l.tape
-
-abbrev pub decreases-loop-i : goal.decreases-loop-i
-decreases-loop-i l = l.n - l.i
+abbrev pub invariant-loop : goal.invariant-loop
+invariant-loop l = (l.counter ≤ l.n) × Adds l.at l.initial.tape (replicate l.counter 0) l.to l.tape

@@ -1,6 +1,6 @@
 use mathlib.Core.List.{append_assoc}
 use Rattle.packed_access.proofs.Laws.{then, is_flag}
-use Rattle.packed_answers.proofs.Width.Answers.{drop_internal, drop_maybe_status}
+use Rattle.packed_answers.proofs.Width.Answers.{drop_internal, drop_maybe_half}
 use Rattle.packed_after.specs.Operations.{words_after, get_after}
 use Rattle.packed_access.specs.Tape.{word_at}
 use Rattle.packed_after.proofs.p_operations.put_after.Goals as goal
@@ -51,4 +51,4 @@ returns-in-Bringup c = record { adds = rw c.in-Bringup.is (then c.word-at-in-Bri
 
 pub returns-in-Poll : goal.returns-in-Poll
 unfolding words_after get_after word_at
-returns-in-Poll c = record { adds = rw c.in-Poll.is (then c.word-at-in-Poll.ensures (then c.word-at-in-Poll-2.ensures (then c.word-at-in-Poll-3.ensures (then c.put_internal-at.ensures.adds (then c.put_maybe_status-at.ensures.adds (then c.put_poll-at.ensures.adds c.zeros-in-Poll.ensures)))))); back = λ rest. simp (c.in-Poll.is, c.put_internal-at.ensures.back, c.put_maybe_status-at.ensures.back, c.put_poll-at.ensures.back, append_assoc, drop_internal, drop_maybe_status) }
+returns-in-Poll c = record { adds = rw c.in-Poll.is (then c.word-at-in-Poll.ensures (then c.word-at-in-Poll-2.ensures (then c.word-at-in-Poll-3.ensures (then c.put_internal-at.ensures.adds (then c.put-at.ensures.adds (then c.put_poll-at.ensures.adds c.zeros-in-Poll.ensures)))))); back = λ rest. simp (c.in-Poll.is, c.put_internal-at.ensures.back, c.put-at.ensures.back, c.put_poll-at.ensures.back, append_assoc, drop_internal, drop_maybe_half) }

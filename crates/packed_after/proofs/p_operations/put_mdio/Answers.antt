@@ -28,7 +28,7 @@ returns-in-AnLink c = record { adds = rw c.in-AnLink.is (then c.word-at-in-AnLin
 
 pub returns-in-Advertise : goal.returns-in-Advertise
 unfolding words_mdio get_mdio word_at
-returns-in-Advertise c = record { adds = rw c.in-Advertise.is (then c.word-at-in-Advertise.ensures (then c.word-at-in-Advertise-2.ensures (then c.flag-at-in-Advertise.ensures (then c.flag-at-in-Advertise-2.ensures (then c.flag-at-in-Advertise-3.ensures (then c.flag-at-in-Advertise-4.ensures (then c.put_maybe_flag-at.ensures.adds (then c.put_advertise_place-at.ensures.adds c.put_modify.ensures.adds)))))))); back = λ rest. simp (c.in-Advertise.is, is_flag, c.put_maybe_flag-at.ensures.back, c.put_advertise_place-at.ensures.back, c.put_modify.ensures.back, append_assoc, drop_maybe_flag, drop_advertise_place) }
+returns-in-Advertise c = record { adds = rw c.in-Advertise.is (then c.word-at-in-Advertise.ensures (then c.word-at-in-Advertise-2.ensures (then c.flag-at-in-Advertise.ensures (then c.flag-at-in-Advertise-2.ensures (then c.flag-at-in-Advertise-3.ensures (then c.flag-at-in-Advertise-4.ensures (then c.put-at.ensures.adds (then c.put_advertise_place-at.ensures.adds c.put_modify.ensures.adds)))))))); back = λ rest. simp (c.in-Advertise.is, is_flag, c.put-at.ensures.back, c.put_advertise_place-at.ensures.back, c.put_modify.ensures.back, append_assoc, drop_maybe_flag, drop_advertise_place) }
 
 pub returns-in-Clock : goal.returns-in-Clock
 unfolding words_mdio get_mdio word_at

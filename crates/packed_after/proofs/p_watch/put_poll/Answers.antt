@@ -1,6 +1,6 @@
 use mathlib.Core.List.{append_assoc}
 use Rattle.packed_access.proofs.Laws.{then}
-use Rattle.packed_answers.proofs.Width.Answers.{drop_maybe_word}
+use Rattle.packed_answers.proofs.Width.Words.{drop_maybe_word}
 use Rattle.packed_bringup.proofs.Width.Kr.{drop_kr_place}
 use Rattle.packed_after.specs.Watch.{words_poll, get_poll}
 use Rattle.packed_access.specs.Tape.{word_at}
@@ -20,4 +20,4 @@ returns-in-Second c = record { adds = rw c.in-Second.is (then c.word-at-in-Secon
 
 pub returns-in-Force : goal.returns-in-Force
 unfolding words_poll get_poll word_at
-returns-in-Force c = record { adds = rw c.in-Force.is (then c.word-at-in-Force.ensures (then (rw c.wide-in-Force.ensures.same at c.word-at-in-Force-2.ensures) (then c.word-at-in-Force-3.ensures (then c.put_kr_place-at.ensures.adds (then c.put_maybe_word-at.ensures.adds c.put_kr_modify.ensures.adds))))); back = λ rest. simp (c.in-Force.is, c.wide-in-Force.ensures.fits, c.put_kr_place-at.ensures.back, c.put_maybe_word-at.ensures.back, c.put_kr_modify.ensures.back, append_assoc, drop_kr_place, drop_maybe_word) }
+returns-in-Force c = record { adds = rw c.in-Force.is (then c.word-at-in-Force.ensures (then (rw c.wide-in-Force.ensures.same at c.word-at-in-Force-2.ensures) (then c.word-at-in-Force-3.ensures (then c.put_kr_place-at.ensures.adds (then c.put-at.ensures.adds c.put_kr_modify.ensures.adds))))); back = λ rest. simp (c.in-Force.is, c.wide-in-Force.ensures.fits, c.put_kr_place-at.ensures.back, c.put-at.ensures.back, c.put_kr_modify.ensures.back, append_assoc, drop_kr_place, drop_maybe_word) }

@@ -26,4 +26,4 @@ returns-in-X557 c = record { adds = rw c.in-X557.is (then c.word-at-in-X557.ensu
 
 pub returns-in-Firmware : goal.returns-in-Firmware
 unfolding words_setup553 get_setup553 word_at
-returns-in-Firmware c = record { adds = rw c.in-Firmware.is (then c.word-at-in-Firmware.ensures (then c.word-at-in-Firmware-2.ensures (then (rw c.wide.ensures.same at c.word-at-in-Firmware-3.ensures) (then c.flag-at.ensures (then c.put_maybe_word-at.ensures.adds c.zeros-in-Firmware.ensures))))); back = λ rest. simp (c.in-Firmware.is, c.wide.ensures.fits, is_flag, c.put_maybe_word-at.ensures.back, append_assoc) }
+returns-in-Firmware c = record { adds = rw c.in-Firmware.is (then c.word-at-in-Firmware.ensures (then c.word-at-in-Firmware-2.ensures (then (rw c.wide.ensures.same at c.word-at-in-Firmware-3.ensures) (then c.flag-at.ensures (then c.put-at.ensures.adds c.zeros-in-Firmware.ensures))))); back = λ rest. simp (c.in-Firmware.is, c.wide.ensures.fits, is_flag, c.put-at.ensures.back, append_assoc) }

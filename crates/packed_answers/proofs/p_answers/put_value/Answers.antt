@@ -31,11 +31,11 @@ returns-in-Activity c = record { adds = rw c.in-Activity.is (then c.word-at-in-A
 
 pub returns-in-Probe : goal.returns-in-Probe
 unfolding words_value get_value word_at
-returns-in-Probe c = record { adds = rw c.in-Probe.is (then c.word-at-in-Probe.ensures (then c.put_phy_id-at.ensures.adds c.zeros-in-Probe.ensures)); back = λ rest. simp (c.in-Probe.is, c.put_phy_id-at.ensures.back, append_assoc) }
+returns-in-Probe c = record { adds = rw c.in-Probe.is (then c.word-at-in-Probe.ensures (then c.put-at.ensures.adds c.zeros-in-Probe.ensures)); back = λ rest. simp (c.in-Probe.is, c.put-at.ensures.back, append_assoc) }
 
 pub returns-in-Scan : goal.returns-in-Scan
 unfolding words_value get_value word_at
-returns-in-Scan c = record { adds = rw c.in-Scan.is (then c.word-at-in-Scan.ensures (then c.put_scanned-at.ensures.adds c.zeros-in-Scan.ensures)); back = λ rest. simp (c.in-Scan.is, c.put_scanned-at.ensures.back, append_assoc) }
+returns-in-Scan c = record { adds = rw c.in-Scan.is (then c.word-at-in-Scan.ensures (then c.put-at-in-Scan.ensures.adds c.zeros-in-Scan.ensures)); back = λ rest. simp (c.in-Scan.is, c.put-at-in-Scan.ensures.back, append_assoc) }
 
 pub returns-in-Abilities : goal.returns-in-Abilities
 unfolding words_value get_value word_at
@@ -51,4 +51,4 @@ returns-in-X553 c = record { adds = rw c.in-X553.is (then c.word-at-in-X553.ensu
 
 pub returns-in-Poll : goal.returns-in-Poll
 unfolding words_value get_value word_at
-returns-in-Poll c = record { adds = rw c.in-Poll.is (then c.word-at-in-Poll.ensures (then c.word-at-in-Poll-2.ensures (then c.put_copper-at.ensures.adds (then c.put_maybe_status-at.ensures.adds c.zeros-in-Poll.ensures)))); back = λ rest. simp (c.in-Poll.is, c.put_copper-at.ensures.back, c.put_maybe_status-at.ensures.back, append_assoc, drop_copper) }
+returns-in-Poll c = record { adds = rw c.in-Poll.is (then c.word-at-in-Poll.ensures (then c.word-at-in-Poll-2.ensures (then c.put_copper-at.ensures.adds (then c.put-at-in-Poll.ensures.adds c.zeros-in-Poll.ensures)))); back = λ rest. simp (c.in-Poll.is, c.put_copper-at.ensures.back, c.put-at-in-Poll.ensures.back, append_assoc, drop_copper) }

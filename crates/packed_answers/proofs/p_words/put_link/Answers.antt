@@ -9,4 +9,4 @@ returns-in-Down c = record { adds = rw c.in-Down.is (then c.word-at.ensures c.ze
 
 pub returns-in-Up : goal.returns-in-Up
 unfolding words_link get_link word_at
-returns-in-Up c = record { adds = rw c.in-Up.is (then c.word-at-in-Up.ensures c.put_megabits.ensures.adds); back = λ rest. simp (c.in-Up.is, c.put_megabits.ensures.back) }
+returns-in-Up c = record { adds = rw c.in-Up.is (then c.word-at-in-Up.ensures c.put.ensures.adds); back = λ rest. simp (c.in-Up.is, c.put.ensures.back) }

@@ -1,6 +1,7 @@
 use mathlib.Core.List.{append_assoc}
 use Rattle.packed_access.proofs.Laws.{then, is_flag}
-use Rattle.packed_answers.proofs.Width.Answers.{drop_internal, drop_maybe_word}
+use Rattle.packed_answers.proofs.Width.Answers.{drop_internal}
+use Rattle.packed_answers.proofs.Width.Words.{drop_maybe_word}
 use Rattle.packed_bringup.proofs.Width.Kr.{drop_kr_place}
 use Rattle.packed_bringup.specs.Bringup.{words_bringup, get_bringup}
 use Rattle.packed_access.specs.Tape.{word_at}
@@ -28,7 +29,7 @@ returns-in-Mmngc c = record { adds = rw c.in-Mmngc.is (then c.word-at-in-Mmngc.e
 
 pub returns-in-Kr : goal.returns-in-Kr
 unfolding words_bringup get_bringup word_at
-returns-in-Kr c = record { adds = rw c.in-Kr.is (then c.word-at-in-Kr.ensures (then c.put_kr_place-at.ensures.adds (then c.put_maybe_word-at.ensures.adds (then c.put_kr_modify-at.ensures.adds c.zeros-in-Kr.ensures)))); back = λ rest. simp (c.in-Kr.is, c.put_kr_place-at.ensures.back, c.put_maybe_word-at.ensures.back, c.put_kr_modify-at.ensures.back, append_assoc, drop_kr_place, drop_maybe_word) }
+returns-in-Kr c = record { adds = rw c.in-Kr.is (then c.word-at-in-Kr.ensures (then c.put_kr_place-at.ensures.adds (then c.put-at.ensures.adds (then c.put_kr_modify-at.ensures.adds c.zeros-in-Kr.ensures)))); back = λ rest. simp (c.in-Kr.is, c.put_kr_place-at.ensures.back, c.put-at.ensures.back, c.put_kr_modify-at.ensures.back, append_assoc, drop_kr_place, drop_maybe_word) }
 
 pub returns-in-Sgmii : goal.returns-in-Sgmii
 unfolding words_bringup get_bringup word_at

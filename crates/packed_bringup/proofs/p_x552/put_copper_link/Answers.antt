@@ -1,6 +1,6 @@
 use mathlib.Core.List.{append_assoc}
 use Rattle.packed_access.proofs.Laws.{then, is_flag}
-use Rattle.packed_answers.proofs.Width.Answers.{drop_maybe_word}
+use Rattle.packed_answers.proofs.Width.Words.{drop_maybe_word}
 use Rattle.packed_bringup.proofs.Width.Kr.{drop_kr_place}
 use Rattle.packed_bringup.proofs.Width.Phy.{drop_advertise_place}
 use Rattle.packed_bringup.specs.X552.{words_copper_link, get_copper_link}
@@ -13,7 +13,7 @@ returns-in-Abilities c = record { adds = rw c.in-Abilities.is (then c.word-at.en
 
 pub returns-in-Ixfi : goal.returns-in-Ixfi
 unfolding words_copper_link get_copper_link word_at
-returns-in-Ixfi c = record { adds = rw c.in-Ixfi.is (then c.word-at-in-Ixfi.ensures (then c.flag-at.ensures (then c.flag-at-in-Ixfi.ensures (then c.flag-at-in-Ixfi-2.ensures (then c.put_kr_place-at.ensures.adds (then c.put_maybe_word-at.ensures.adds c.put_kr_modify.ensures.adds)))))); back = λ rest. simp (c.in-Ixfi.is, is_flag, c.put_kr_place-at.ensures.back, c.put_maybe_word-at.ensures.back, c.put_kr_modify.ensures.back, append_assoc, drop_kr_place, drop_maybe_word) }
+returns-in-Ixfi c = record { adds = rw c.in-Ixfi.is (then c.word-at-in-Ixfi.ensures (then c.flag-at.ensures (then c.flag-at-in-Ixfi.ensures (then c.flag-at-in-Ixfi-2.ensures (then c.put_kr_place-at.ensures.adds (then c.put-at.ensures.adds c.put_kr_modify.ensures.adds)))))); back = λ rest. simp (c.in-Ixfi.is, is_flag, c.put_kr_place-at.ensures.back, c.put-at.ensures.back, c.put_kr_modify.ensures.back, append_assoc, drop_kr_place, drop_maybe_word) }
 
 pub returns-in-Waiting : goal.returns-in-Waiting
 unfolding words_copper_link get_copper_link word_at

@@ -1,6 +1,6 @@
 use mathlib.Core.List.{append_assoc}
 use Rattle.packed_access.proofs.Laws.{then, is_flag}
-use Rattle.packed_answers.proofs.Width.Answers.{drop_maybe_word}
+use Rattle.packed_answers.proofs.Width.Words.{drop_maybe_word}
 use Rattle.packed_bringup.specs.X553.{words_setup_firmware, get_setup_firmware}
 use Rattle.packed_access.specs.Tape.{word_at}
 use Rattle.packed_bringup.proofs.p_x553.put_setup_firmware.Goals as goal
@@ -23,4 +23,4 @@ returns-in-Info c = record { adds = rw c.in-Info.is (then c.word-at-in-Info.ensu
 
 pub returns-in-Down : goal.returns-in-Down
 unfolding words_setup_firmware get_setup_firmware word_at
-returns-in-Down c = record { adds = rw c.in-Down.is (then c.word-at-in-Down.ensures (then c.word-at-in-Down-2.ensures (then (rw c.wide-in-Down.ensures.same at c.word-at-in-Down-3.ensures) (then c.put_maybe_word-at.ensures.adds (then c.put_activity-at-in-Down.ensures.adds c.zeros-in-Down.ensures))))); back = λ rest. simp (c.in-Down.is, c.wide-in-Down.ensures.fits, c.put_maybe_word-at.ensures.back, c.put_activity-at-in-Down.ensures.back, append_assoc, drop_maybe_word) }
+returns-in-Down c = record { adds = rw c.in-Down.is (then c.word-at-in-Down.ensures (then c.word-at-in-Down-2.ensures (then (rw c.wide-in-Down.ensures.same at c.word-at-in-Down-3.ensures) (then c.put-at.ensures.adds (then c.put_activity-at-in-Down.ensures.adds c.zeros-in-Down.ensures))))); back = λ rest. simp (c.in-Down.is, c.wide-in-Down.ensures.fits, c.put-at.ensures.back, c.put_activity-at-in-Down.ensures.back, append_assoc, drop_maybe_word) }

@@ -1,6 +1,6 @@
 use mathlib.Core.List.{append_assoc}
 use Rattle.packed_access.proofs.Laws.{then}
-use Rattle.packed_answers.proofs.Width.Answers.{drop_maybe_word}
+use Rattle.packed_answers.proofs.Width.Words.{drop_maybe_word}
 use Rattle.packed_bringup.proofs.Width.Kr.{drop_kr_place}
 use Rattle.packed_bringup.specs.X553.{words_sgmii, get_sgmii}
 use Rattle.packed_access.specs.Tape.{word_at}
@@ -20,4 +20,4 @@ returns-in-Lane c = record { adds = rw c.in-Lane.is (then c.word-at-in-Lane.ensu
 
 pub returns-in-Restart : goal.returns-in-Restart
 unfolding words_sgmii get_sgmii word_at
-returns-in-Restart c = record { adds = rw c.in-Restart.is (then c.word-at-in-Restart.ensures (then c.word-at-in-Restart-2.ensures (then c.word-at-in-Restart-3.ensures (then c.word-at-in-Restart-4.ensures (then c.put_kr_place-at.ensures.adds (then c.put_maybe_word-at.ensures.adds c.put_kr_modify.ensures.adds)))))); back = λ rest. simp (c.in-Restart.is, c.put_kr_place-at.ensures.back, c.put_maybe_word-at.ensures.back, c.put_kr_modify.ensures.back, append_assoc, drop_kr_place, drop_maybe_word) }
+returns-in-Restart c = record { adds = rw c.in-Restart.is (then c.word-at-in-Restart.ensures (then c.word-at-in-Restart-2.ensures (then c.word-at-in-Restart-3.ensures (then c.word-at-in-Restart-4.ensures (then c.put_kr_place-at.ensures.adds (then c.put-at.ensures.adds c.put_kr_modify.ensures.adds)))))); back = λ rest. simp (c.in-Restart.is, c.put_kr_place-at.ensures.back, c.put-at.ensures.back, c.put_kr_modify.ensures.back, append_assoc, drop_kr_place, drop_maybe_word) }

@@ -7,7 +7,6 @@ pub loop-i-preserved : goal.loop-i-preserved
 loop-i-preserved g c =
     let l = c.loop-i in
     record {
-      few = omega arith;
       asked = omega arith;
       there = omega arith;
       text = λ inside room.

@@ -3,6 +3,7 @@ use mathlib.Core.Path.{◌≡◌}
 use native.Mathlib.Omega.{arith}
 use Rattle.hardware.proofs.Laws.{times_more, carry_more}
 use Rattle.reference.specs.Sync.{acquire_bits}
+use Rattle.sync.specs.Sync.{taken}
 use Rattle.sync.proofs.sync.Sync.first.Goals as goal
 
 tries : ◌≡◌ {A = ℕ} 1000 0 → ⊥
@@ -12,5 +13,5 @@ reads : ◌≡◌ {A = ℕ} 2000 0 → ⊥
 reads h = omega (arith, h)
 
 pub returns : goal.returns
-unfolding acquire_bits
-returns c = simp (c.of.ensures, c.mux.ensures, carry_more tries, times_more reads)
+unfolding acquire_bits taken
+returns c = simp (c.from.ensures, c.mux.ensures, carry_more tries, times_more reads)

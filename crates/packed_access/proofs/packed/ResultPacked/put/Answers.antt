@@ -1,0 +1,23 @@
+use mathlib.Core.List.{append_assoc}
+use Rattle.packed_access.proofs.Laws.{then}
+use Rattle.packed_access.specs.Packed.{words_result, get_result}
+use Rattle.packed_access.specs.Tape.{word_at}
+use Rattle.packed_access.proofs.packed.ResultPacked.put.Goals as goal
+
+pub returns-in-Ok-clause-adds : goal.returns-in-Ok-clause-adds
+unfolding words_result
+returns-in-Ok-clause-adds g c =
+    rw c.in-Ok.is (then c.word-at.ensures (then c.put-at.ensures.adds (rw (c.width.ensures, c.width-in-Ok.ensures) at c.pad.ensures)))
+
+pub returns-in-Ok-clause-back : goal.returns-in-Ok-clause-back
+unfolding words_result get_result word_at
+returns-in-Ok-clause-back g c = λ rest. simp (c.in-Ok.is, append_assoc, c.put-at.ensures.back)
+
+pub returns-in-Err-clause-adds : goal.returns-in-Err-clause-adds
+unfolding words_result
+returns-in-Err-clause-adds g c =
+    rw c.in-Err.is (then c.word-at-in-Err.ensures (then c.put-at-in-Err.ensures.adds (rw (c.width-in-Err.ensures, c.width-in-Err-2.ensures) at c.pad-in-Err.ensures)))
+
+pub returns-in-Err-clause-back : goal.returns-in-Err-clause-back
+unfolding words_result get_result word_at
+returns-in-Err-clause-back g c = λ rest. simp (c.in-Err.is, append_assoc, c.put-at-in-Err.ensures.back)

@@ -1,8 +1,0 @@
-use Rattle.hardware.proofs.Laws.{then_assoc, times_more, times_none}
-use Rattle.phy.proofs.reset.Reset.again.Goals as goal
-
-pub returns-then-left-eq0 : goal.returns-then-left-eq0
-returns-then-left-eq0 c = λ b. simp (times_none c.if-left-eq0.true, then_assoc)
-
-pub returns-else-left-eq0 : goal.returns-else-left-eq0
-returns-else-left-eq0 c = λ b. simp (times_more c.if-left-eq0.false)

@@ -1,8 +1,0 @@
-use mathlib.Core.Path.{sym}
-use Rattle.operations.specs.After.{resume_after}
-use Rattle.drive.proofs.Laws.{told_as, inside}
-use Rattle.started.proofs.operation.Op.run.Goals as goal
-
-pub returns : goal.returns
-returns c = let g = c.args in
-    told_as (sym c.stepped-place.ensures) (inside (λ p. resume_after g.port g.self.after p.0 p.1) c.run-r.ensures)

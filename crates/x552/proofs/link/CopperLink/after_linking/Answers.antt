@@ -1,5 +1,0 @@
-use Rattle.hardware.proofs.Laws.{then_assoc}
-use Rattle.x552.proofs.link.CopperLink.after_linking.Goals as goal
-
-pub returns-in-Ask : goal.returns-in-Ask
-returns-in-Ask c = λ b. simp (c.in-Ask.is, then_assoc)
