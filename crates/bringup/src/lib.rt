@@ -81,6 +81,7 @@ fn copper_value(family: Family, set: CopperSetup) -> Value
 }
 
 impl Bringup {
+    #[tactic(auto, using(hardware::proofs::Laws::then_assoc))]
     fn after_kr(
         veto: bool,
         port: Port,
@@ -98,6 +99,7 @@ impl Bringup {
         }
     }
 
+    #[tactic(auto, using(hardware::proofs::Laws::then_assoc))]
     fn after_sgmii(
         veto: bool,
         port: Port,
@@ -114,7 +116,7 @@ impl Bringup {
         }
     }
 
-    #[tactic(auto, unfolding(reference::specs::X552::kr_autoneg))]
+    #[tactic(auto, using(hardware::proofs::Laws::then_assoc), unfolding(reference::specs::X552::kr_autoneg))]
     fn lane(veto: bool, port: Port, lane: Lane) -> Step<Job, Bringup, Result<Value, Error>>
         ensures { (b : List ℕ) → told_bringup port veto b result ≡ lane_talk port lane }
     {
@@ -181,6 +183,7 @@ impl Bringup {
         }
     }
 
+    #[tactic(auto, using(hardware::proofs::Laws::then_assoc))]
     fn after_link(
         veto: bool,
         port: Port,
@@ -199,6 +202,7 @@ impl Bringup {
         }
     }
 
+    #[tactic(auto, using(hardware::proofs::Laws::then_assoc))]
     fn after_copper(
         veto: bool,
         port: Port,
@@ -225,6 +229,7 @@ impl Bringup {
         Bringup::after_copper(veto, port, PrepareCopper::start(veto, port))
     }
 
+    #[tactic(auto, using(hardware::proofs::Laws::then_assoc))]
     fn after_set(
         veto: bool,
         port: Port,
@@ -241,6 +246,7 @@ impl Bringup {
         }
     }
 
+    #[tactic(auto, using(hardware::proofs::Laws::then_assoc))]
     fn after_firmware(
         veto: bool,
         port: Port,
@@ -260,7 +266,7 @@ impl Bringup {
         }
     }
 
-    #[tactic(auto, unfolding(reference::specs::X553::prepare_firmware))]
+    #[tactic(auto, using(hardware::proofs::Laws::then_assoc), unfolding(reference::specs::X553::prepare_firmware))]
     fn firmware(
         veto: bool,
         port: Port,
@@ -323,6 +329,7 @@ impl Bringup {
         }
     }
 
+    #[tactic(auto, using(hardware::proofs::Laws::then_assoc))]
     fn after_clock(
         veto: bool,
         port: Port,
@@ -341,6 +348,7 @@ impl Bringup {
         }
     }
 
+    #[tactic(auto, using(crate::proofs::Laws::bringup_clocked))]
     fn clocked(
         veto: bool,
         port: Port,
@@ -373,6 +381,7 @@ impl Bringup {
         }
     }
 
+    #[tactic(auto, using(hardware::proofs::Laws::then_assoc))]
     pub fn next(
         self,
         veto: bool,

@@ -59,6 +59,7 @@ impl SetupFirmware {
         }))
     }
 
+    #[tactic(auto, using(hardware::proofs::Laws::then_assoc))]
     fn after_down(
         port: Port,
         phy: FirmwarePhy,
@@ -77,6 +78,7 @@ impl SetupFirmware {
     }
 
     // Too hot: the link is forced down.
+    #[tactic(auto, using(hardware::proofs::Laws::then_assoc))]
     fn down(
         port: Port,
         phy: FirmwarePhy,
@@ -105,6 +107,7 @@ impl SetupFirmware {
         }
     }
 
+    #[tactic(auto, using(hardware::proofs::Laws::then_assoc))]
     fn after_info(
         port: Port,
         phy: FirmwarePhy,
@@ -123,6 +126,7 @@ impl SetupFirmware {
         }
     }
 
+    #[tactic(auto, using(hardware::proofs::Laws::then_assoc))]
     fn link(
         port: Port,
         phy: FirmwarePhy,
@@ -139,6 +143,7 @@ impl SetupFirmware {
         Step::Ask(Job::Command(6), SetupFirmware::Info(phy, flx, s))
     }
 
+    #[tactic(auto, using(hardware::proofs::Laws::then_assoc))]
     fn after_link(
         port: Port,
         phy: FirmwarePhy,
@@ -157,6 +162,7 @@ impl SetupFirmware {
         }
     }
 
+    #[tactic(auto, using(hardware::proofs::Laws::then_assoc))]
     fn after_internal(
         port: Port,
         phy: FirmwarePhy,
@@ -237,6 +243,7 @@ impl SetupFirmware {
         SetupFirmware::set(port, phy, None, false)
     }
 
+    #[tactic(auto, using(hardware::proofs::Laws::then_assoc))]
     pub fn next(
         self,
         port: Port,

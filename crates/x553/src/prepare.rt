@@ -98,6 +98,7 @@ impl FirmwarePlace {
 }
 
 impl PrepareFirmware {
+    #[tactic(auto, using(hardware::proofs::Laws::then_assoc))]
     fn begin(
         place: FirmwarePlace,
         phy: FirmwarePhy,
@@ -144,6 +145,7 @@ impl PrepareFirmware {
         }
     }
 
+    #[tactic(auto, using(hardware::proofs::Laws::then_assoc))]
     fn after_place(
         place: FirmwarePlace,
         phy: FirmwarePhy,
@@ -188,6 +190,7 @@ impl PrepareFirmware {
         PrepareFirmware::begin(FirmwarePlace::Reset, phy, veto, port, block)
     }
 
+    #[tactic(auto, using(hardware::proofs::Laws::then_assoc))]
     fn after_info(
         veto: bool,
         port: Port,
@@ -205,7 +208,7 @@ impl PrepareFirmware {
         }
     }
 
-    #[tactic(auto, unfolding(reference::specs::X553::prepare_firmware))]
+    #[tactic(auto, using(hardware::proofs::Laws::then_assoc), unfolding(reference::specs::X553::prepare_firmware))]
     pub fn start(
         veto: bool,
         port: Port,
@@ -217,6 +220,7 @@ impl PrepareFirmware {
         Step::Ask(Job::Command(6), PrepareFirmware::Info(s))
     }
 
+    #[tactic(auto, using(hardware::proofs::Laws::then_assoc))]
     pub fn next(
         self,
         veto: bool,

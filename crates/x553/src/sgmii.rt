@@ -39,6 +39,7 @@ impl Sgmii {
         Change::of(Change::FLX, 0x7800_0000, 0x2600_0000)
     }
 
+    #[tactic(auto, using(hardware::proofs::Laws::then_assoc))]
     fn after_restart(
         port: Port,
         set: SgmiiSetup,
@@ -55,7 +56,7 @@ impl Sgmii {
         }
     }
 
-    #[tactic(auto, unfolding(reference::specs::X552::restart_an))]
+    #[tactic(auto, using(hardware::proofs::Laws::then_assoc), unfolding(reference::specs::X552::restart_an))]
     fn after_lane(
         port: Port,
         lc1: u32,
@@ -81,6 +82,7 @@ impl Sgmii {
         }
     }
 
+    #[tactic(auto, using(hardware::proofs::Laws::then_assoc))]
     fn after_force(
         port: Port,
         lc1: u32,
@@ -100,6 +102,7 @@ impl Sgmii {
         }
     }
 
+    #[tactic(auto, using(hardware::proofs::Laws::then_assoc))]
     fn after_ctrl(
         port: Port,
         step: Step<Job, KrModify, Result<u32, Error>>,
@@ -118,7 +121,7 @@ impl Sgmii {
         }
     }
 
-    #[tactic(auto, unfolding(reference::specs::X553::sgmii))]
+    #[tactic(auto, using(hardware::proofs::Laws::then_assoc), unfolding(reference::specs::X553::sgmii))]
     pub fn start(port: Port) -> Step<Job, Sgmii, Result<SgmiiSetup, Error>>
         ensures { (b : List ℕ) → told_sgmii port b result ≡ sgmii 10 port }
     {
@@ -126,6 +129,7 @@ impl Sgmii {
         Sgmii::after_ctrl(port, step)
     }
 
+    #[tactic(auto, using(hardware::proofs::Laws::then_assoc))]
     pub fn next(
         self,
         port: Port,

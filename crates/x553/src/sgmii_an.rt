@@ -43,6 +43,7 @@ impl SgmiiAn {
         Change::of(Change::FLX, 0x7800_0000, 0x4600_0000)
     }
 
+    #[tactic(auto, using(hardware::proofs::Laws::then_assoc))]
     fn after_restart(
         port: Port,
         flx: u32,
@@ -59,7 +60,7 @@ impl SgmiiAn {
         }
     }
 
-    #[tactic(auto, unfolding(reference::specs::X552::restart_an))]
+    #[tactic(auto, using(hardware::proofs::Laws::then_assoc), unfolding(reference::specs::X552::restart_an))]
     fn after_lane(
         port: Port,
         step: Step<Job, KrModify, Result<u32, Error>>,
@@ -78,6 +79,7 @@ impl SgmiiAn {
         }
     }
 
+    #[tactic(auto, using(hardware::proofs::Laws::then_assoc))]
     fn after_again(port: Port, got: Result<u32, Error>) -> Step<Job, SgmiiAn, Result<u32, Error>>
         ensures { (b : List ℕ) → told_sgmii_an port b result ≡ got_again port got }
     {
@@ -90,6 +92,7 @@ impl SgmiiAn {
         }
     }
 
+    #[tactic(auto, using(hardware::proofs::Laws::then_assoc, access::proofs::Laws::wrote))]
     fn after_force(
         port: Port,
         lc1: u32,
@@ -109,6 +112,7 @@ impl SgmiiAn {
         }
     }
 
+    #[tactic(auto, using(hardware::proofs::Laws::then_assoc))]
     fn after_ctrl(
         port: Port,
         step: Step<Job, KrModify, Result<u32, Error>>,
@@ -127,7 +131,7 @@ impl SgmiiAn {
         }
     }
 
-    #[tactic(auto, unfolding(reference::specs::X553::sgmii_an))]
+    #[tactic(auto, using(hardware::proofs::Laws::then_assoc), unfolding(reference::specs::X553::sgmii_an))]
     pub fn start(port: Port) -> Step<Job, SgmiiAn, Result<u32, Error>>
         ensures { (b : List ℕ) → told_sgmii_an port b result ≡ sgmii_an 10 port }
     {
@@ -135,6 +139,7 @@ impl SgmiiAn {
         SgmiiAn::after_ctrl(port, step)
     }
 
+    #[tactic(auto, using(hardware::proofs::Laws::then_assoc))]
     pub fn next(self, port: Port, got: Result<u32, Error>) -> Step<Job, SgmiiAn, Result<u32, Error>>
         ensures { (b : List ℕ) → told_sgmii_an port b result ≡ resume_sgmii_an port self got }
     {

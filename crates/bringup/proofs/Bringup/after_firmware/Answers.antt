@@ -1,8 +1,4 @@
-use Rattle.hardware.proofs.Laws.{then_assoc}
 use Rattle.bringup.proofs.Bringup.after_firmware.Goals as goal
-
-pub returns-in-Ask : goal.returns-in-Ask
-returns-in-Ask c = λ b. simp (c.in-Ask.is, then_assoc)
 
 pub returns-in-Ok : goal.returns-in-Ok
 returns-in-Ok c = λ b. simp (c.in-Done.is, c.in-Ok.is, c.start-step.ensures, c.after_set.ensures)

@@ -1,8 +1,4 @@
-use Rattle.hardware.proofs.Laws.{then_assoc}
 use Rattle.x553.proofs.prepare.PrepareFirmware.after_info.Goals as goal
-
-pub returns-in-Ask : goal.returns-in-Ask
-returns-in-Ask c = simp (c.in-Ask.is, then_assoc)
 
 pub returns-in-Ok : goal.returns-in-Ok
 returns-in-Ok c = simp (c.in-Done.is, c.in-Ok.is, c.phy_info.ensures, c.info.ensures)

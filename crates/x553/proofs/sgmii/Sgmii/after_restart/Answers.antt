@@ -1,5 +1,0 @@
-use Rattle.hardware.proofs.Laws.{then_assoc}
-use Rattle.x553.proofs.sgmii.Sgmii.after_restart.Goals as goal
-
-pub returns-in-Ask : goal.returns-in-Ask
-returns-in-Ask c = λ b. simp (c.in-Ask.is, then_assoc)

@@ -1,7 +1,0 @@
-use mathlib.Core.Path.{sym}
-use Rattle.reference.specs.X553.{sgmii_an}
-use Rattle.x553.proofs.sgmii_an.SgmiiAn.start.Goals as goal
-
-pub returns : goal.returns
-unfolding sgmii_an
-returns c = λ b. simp (c.ctrl.ensures, c.start-step.ensures, c.after_ctrl.ensures) (simp (sym c.ctrl.ensures))
