@@ -1,9 +1,9 @@
 -- Jobs as talks that give a word
 use Rattle.std.specs.Prelude.{Err, Ok}
-use Rattle.hardware.specs.Talk.{Talk, Call, Res, end, ask, and_then, or_stop, ◌>>◌, return}
+use Rattle.hardware.specs.Talk.{Call, Res, end, ask, and_then, or_stop, ◌>>◌, return}
 use Prim.Native.Nat.{ℕ}
-use mathlib.Core.List.{List, []}
-use mathlib.Core.Path.{◌≡◌, refl, ap, ◌∙◌, fun_ext}
+use mathlib.Core.List.{[]}
+use mathlib.Core.Path.{◌≡◌, refl, ap, fun_ext}
 use Rattle.hardware.specs.Block.{keep}
 use Rattle.hardware.specs.declared.Port.{Port}
 use Rattle.words.specs.Mdio.{address}
@@ -52,18 +52,16 @@ module _ (give : Call (Unit {0})) where
 pub zero_begun : (port : Port) (mask : ℕ) (body : Call (Unit {0})) → no_word (locked plain port mask body) ≡ keep (locked plain port mask (body >> return 0)) []
 zero_begun port mask body = held_zero (release port mask) (acquire port mask) body
 
--- of the address and the mask that the code has made
-
-module _ (port : Port) (phy dev reg : ℕ) {a m : ℕ} (e : address phy dev reg ≡ a) (f : mask port ≡ m) {t : Talk (Res ℕ × List ℕ)} where
-  pub read_begun : under_talk port m (held.Mdio (wanted.Read a)) ≡ t → keep (read_reg port phy dev reg) [] ≡ t
-  unfolding read_reg
-  read_begun h = rw (e, f) h
-
-  pub write_begun : (v : ℕ) → under_talk port m (held.Mdio (wanted.Write a v)) ≡ t → no_word (write_reg port phy dev reg v) ≡ t
-  unfolding write_reg
-  write_begun v h = rw (e, f) (zero_begun port m (write_body a v) ∙ h)
-
 module _ (port : Port) where
+  pub read_begun : (phy dev reg : ℕ) → keep (read_reg port phy dev reg) [] ≡ under_talk port (mask port) (held.Mdio (wanted.Read (address phy dev reg)))
+  unfolding read_reg
+  read_begun phy dev reg = refl
+
+  pub write_begun : (phy dev reg v : ℕ)
+      → no_word (write_reg port phy dev reg v) ≡ under_talk port (mask port) (held.Mdio (wanted.Write (address phy dev reg) v))
+  unfolding write_reg
+  write_begun phy dev reg v = zero_begun port (mask port) (write_body (address phy dev reg) v)
+
   pub kr_read_begun : (a : ℕ) → keep (kr_read 10 port a) [] ≡ under_talk port 6 (held.Kr (kr.Read a))
   unfolding kr_read
   kr_read_begun a = refl

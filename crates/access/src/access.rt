@@ -79,8 +79,7 @@ fn phy(lan: u32) -> u32
 fn mask(port: Port) -> u32
     ensures { mask port ≡ result }
 {
-    let family = port.family;
-    match family {
+    match port.family {
         Family::X552 => phy(port.lan),
         Family::X553 => phy(port.lan) | Hold::TOKEN,
     }
@@ -95,8 +94,7 @@ impl Begun {
     fn under(port: Port, mask: u32, held: Held, block: &mut [u32; 16]) -> Begun
         ensures { under_talk port mask held ≡ ask result.action (λ x. resume_access port result.access block.new x) }
     {
-        let family = port.family;
-        let regs = Regs::from(family);
+        let regs = Regs::from(port.family);
         let state = Locked::first(port, mask, held, block);
         Begun {
             action: Action::Read(regs.swsm),
@@ -107,6 +105,7 @@ impl Begun {
 
 impl Job {
     // Every job begins with an action.
+    #[tactic(auto, using(crate::proofs::Laws::kr_read_begun, crate::proofs::Laws::kr_write_begun, crate::proofs::Laws::nvm_begun))]
     pub fn start(self, port: Port, block: &mut [u32; 16]) -> Begun
         ensures { job_talk port self block.old ≡ ask result.action (λ x. resume_access port result.access block.new x) }
     {
@@ -124,8 +123,7 @@ impl Job {
                 access: Access::Waiting,
             },
             Job::Command(words) => {
-                let family = port.family;
-                let regs = Regs::from(family);
+                let regs = Regs::from(port.family);
                 Begun {
                     action: Action::Read(regs.swsm),
                     access: Access::Command(words, Command::first(port)),
@@ -153,6 +151,7 @@ impl Job {
 }
 
 impl Access {
+    // The command's status is the word.
     fn commanded(
         port: Port,
         words: usize,

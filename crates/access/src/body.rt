@@ -21,6 +21,7 @@ pub enum Held {
     Nvm(u16),
 }
 
+// It ends with the word that was read, 0 after a write.
 #[derive(Clone, Copy)]
 pub enum Body {
     Mdio(Wanted, Mdio),

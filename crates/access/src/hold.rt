@@ -60,6 +60,7 @@ impl Hold {
         }
     }
 
+    #[tactic(auto, using(hardware::proofs::Laws::times_more, hardware::proofs::Laws::times_none))]
     fn again(
         port: Port,
         hw: u32,
@@ -105,10 +106,8 @@ impl Hold {
     {
         match step {
             Step::Ask(a, s) => Step::Ask(a, Hold::Bits(BitsPlace::Taking(left), s)),
-            Step::Done(r) => match r {
-                Ok(()) => Hold::ask(port, hw, block, left),
-                Err(e) => Step::Done(Err(e)),
-            },
+            Step::Done(Ok(())) => Hold::ask(port, hw, block, left),
+            Step::Done(Err(e)) => Step::Done(Err(e)),
         }
     }
 
@@ -136,14 +135,8 @@ impl Hold {
         ensures { (b : List ℕ) → told_hold port hw b result ≡ acquire_got port hw (acquire_times port hw left) granted }
     {
         match granted {
-            Err(e) => Hold::given(port, hw, left, Err(e)),
-            Ok(granted) => {
-                if granted {
-                    Step::Done(Ok(()))
-                } else {
-                    Hold::given(port, hw, left, Ok(false))
-                }
-            }
+            Ok(true) => Step::Done(Ok(())),
+            _ => Hold::given(port, hw, left, granted),
         }
     }
 
@@ -175,10 +168,8 @@ impl Hold {
     {
         match step {
             Step::Ask(a, s) => Step::Ask(a, Hold::Bits(BitsPlace::Freeing(left, granted), s)),
-            Step::Done(r) => match r {
-                Ok(()) => Hold::lost(port, hw, left, granted),
-                Err(e) => Step::Done(Err(e)),
-            },
+            Step::Done(Ok(())) => Hold::lost(port, hw, left, granted),
+            Step::Done(Err(e)) => Step::Done(Err(e)),
         }
     }
 
@@ -220,10 +211,8 @@ impl Hold {
     {
         match step {
             Step::Ask(a, s) => Step::Ask(a, Hold::Bits(BitsPlace::Giving(token), s)),
-            Step::Done(r) => match r {
-                Ok(()) => Step::Done(token),
-                Err(e) => Step::Done(Err(e)),
-            },
+            Step::Done(Ok(())) => Step::Done(token),
+            Step::Done(Err(e)) => Step::Done(Err(e)),
         }
     }
 
@@ -236,10 +225,7 @@ impl Hold {
     {
         match step {
             Step::Ask(a, s) => Step::Ask(a, Hold::Token(TokenPlace::Giving, s)),
-            Step::Done(given) => match given {
-                Ok(_) => Hold::rest(port, hw, Ok(())),
-                Err(e) => Hold::rest(port, hw, Err(e)),
-            },
+            Step::Done(given) => Hold::rest(port, hw, given.map(|_| ())),
         }
     }
 
@@ -267,8 +253,7 @@ impl Hold {
     ) -> Step<Action, Hold, Result<(), Error>>
         ensures { told_hold port (hw_of mask) block.new result ≡ acquire port mask }
     {
-        let family = port.family;
-        let regs = Regs::from(family);
+        let regs = Regs::from(port.family);
         let state = Hold::first(port, mask, block);
         Step::Ask(Action::Read(regs.swsm), state)
     }
@@ -309,6 +294,7 @@ impl Hold {
     }
 
     // What is made of the token's command.
+    #[tactic(auto, using(hardware::proofs::Laws::then_assoc))]
     pub fn commanded(
         port: Port,
         hw: u32,

@@ -25,6 +25,7 @@ pub enum HoldPlace {
     Releasing(Result<u32, Error>),
 }
 
+// It ends with what the body gave, or 0 where there is none.
 #[derive(Clone, Copy)]
 pub enum Locked {
     Hold(HoldPlace, Hold),
@@ -42,10 +43,7 @@ impl Locked {
     {
         match step {
             Step::Ask(a, s) => Step::Ask(a, Locked::Hold(HoldPlace::Alone, s)),
-            Step::Done(r) => match r {
-                Ok(()) => Step::Done(Ok(0)),
-                Err(e) => Step::Done(Err(e)),
-            },
+            Step::Done(r) => Step::Done(r.map(|()| 0)),
         }
     }
 
@@ -60,13 +58,11 @@ impl Locked {
     {
         match step {
             Step::Ask(a, s) => Step::Ask(a, Locked::Hold(HoldPlace::Acquiring(held), s)),
-            Step::Done(r) => match r {
-                Ok(()) => {
-                    let step = Body::start(held, block);
-                    Locked::after_body(port, mask, block, step)
-                }
-                Err(e) => Step::Done(Err(e)),
-            },
+            Step::Done(Ok(())) => {
+                let step = Body::start(held, block);
+                Locked::after_body(port, mask, block, step)
+            }
+            Step::Done(Err(e)) => Step::Done(Err(e)),
         }
     }
 

@@ -40,15 +40,15 @@ impl Activity {
         ensures { take 6 block.new ≡ block_of port asked }
     {
         let activity = asked.activity as u32;
-        let data = asked.data;
         block[0] = Activity::HEADER;
         block[1] = port.lan | activity << 16;
-        block[2] = swap_bytes(data.w0);
-        block[3] = swap_bytes(data.w1);
-        block[4] = swap_bytes(data.w2);
-        block[5] = swap_bytes(data.w3);
+        block[2] = swap_bytes(asked.data.w0);
+        block[3] = swap_bytes(asked.data.w1);
+        block[4] = swap_bytes(asked.data.w2);
+        block[5] = swap_bytes(asked.data.w3);
     }
 
+    #[tactic(auto, using(hardware::proofs::Laws::carry_more, hardware::proofs::Laws::carry_none, crate::proofs::Laws::activity_cut))]
     fn again(
         asked: Asked,
         port: Port,
@@ -72,12 +72,11 @@ impl Activity {
     fn word(block: &[u32], words: usize, i: usize) -> u32
         ensures { get_or (take words block.now) i 0 ≡ result }
     {
-        if i < words {
-            if i < block.len() {
-                return block[i];
-            }
+        if i < words && i < block.len() {
+            block[i]
+        } else {
+            0
         }
-        0
     }
 
     // Also where the reply was short: what was sent is then still there.
@@ -117,7 +116,7 @@ impl Activity {
     }
 
     // Its six words are put, and it stands at its first job, the command of six words.
-    #[tactic(auto, unfolding(reference::specs::Hostif::phy_activity))]
+    #[tactic(auto, using(crate::proofs::Laws::activity_cut, crate::proofs::Laws::fifty), unfolding(reference::specs::Hostif::phy_activity))]
     pub fn first(asked: Asked, port: Port, block: &mut [u32; 16]) -> Activity
         ensures { begun_activity port asked block.new result ≡ activity_of port asked }
     {

@@ -125,18 +125,15 @@ impl Fields {
     fn x557(self, p: X557) -> Fields
         ensures { result ≡ added self (x557 p) }
     {
-        let internal = p.internal;
         let phy = self.word(p.phy as u32).word(p.id).word(p.sel);
-        phy.flag(p.unstalled).flag(p.reset).internal(internal)
+        phy.flag(p.unstalled).flag(p.reset).internal(p.internal)
     }
 
     #[tactic(auto, using(crate::proofs::Laws::added_more))]
     fn copper_setup(self, s: CopperSetup) -> Fields
         ensures { result ≡ added self (copper_setup s) }
     {
-        let x557 = s.x557;
-        let advertised = s.advertised;
-        self.x557(x557).speeds(advertised).flag(s.restarted)
+        self.x557(s.x557).speeds(s.advertised).flag(s.restarted)
     }
 
     #[tactic(auto, using(crate::proofs::Laws::added_more))]
@@ -164,11 +161,9 @@ impl Fields {
     fn firmware(self, s: FirmwareSetup) -> Fields
         ensures { result ≡ added self (firmware s) }
     {
-        let phy = s.phy;
-        let internal = s.internal;
-        self.word(phy.id)
-            .word(phy.speeds as u32)
-            .maybe(internal)
+        self.word(s.phy.id)
+            .word(s.phy.speeds as u32)
+            .maybe(s.internal)
             .flag(s.overtemp)
     }
 

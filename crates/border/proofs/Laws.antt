@@ -11,15 +11,15 @@ use Rattle.hardware.specs.declared.Error.TheVariants.{Io, Removed, Timeout, Side
 use Rattle.hardware.specs.declared.Action.{Action}
 use Rattle.hardware.specs.declared.Step.{Step}
 use Rattle.operations.specs.declared.Ended.{Ended}
-use Rattle.packed_access.proofs.Width.Hardware.{family_length}
+use Rattle.packed.proofs.Width.Hardware.{family_length}
 use Rattle.conversation.specs.Conversation.{number}
 use Rattle.conversation.specs.declared.conversation.Conversation.{Conversation}
 use Rattle.conversation.specs.declared.conversation.Stop.{Stop}
 use Rattle.conversation.specs.declared.conversation.Stop.TheVariants as stop
 use Rattle.started.specs.declared.operation.Op.{Op}
-use Rattle.border.specs.Started.{words_place, get_place}
+use Rattle.packed.specs.Started.{words_place, get_place}
 use Rattle.border.specs.Held.{words_of}
-use Rattle.border.proofs.Width.Started.{place_length}
+use Rattle.packed.proofs.Width.Started.{place_length}
 
 pub words_of-length : (c : Conversation) → length (words_of c) ≡ 65
 unfolding words_of

@@ -1,10 +1,10 @@
 -- The words of a conversation, and the conversation that words are read as
 use Rattle.std.specs.Prelude.{ℕ, ◌%◌, ◌/◌, Bool, List, ◌∷◌, ◌++◌, drop}
 use Rattle.text.specs.Same.{same}
-use Rattle.packed_access.specs.Tape.{word_at, joined}
-use Rattle.packed_access.specs.Hardware.{words_family, get_family}
+use Rattle.packed.specs.Tape.{word_at, joined}
+use Rattle.packed.specs.Hardware.{words_family, get_family}
 use Rattle.conversation.specs.declared.conversation.Conversation.{Conversation}
-use Rattle.border.specs.Started.{words_place, get_place}
+use Rattle.packed.specs.Started.{words_place, get_place}
 use Rattle.border.specs.declared.held.Held.{Held}
 
 -- 65 words: the port's device and lan, the two counts, its family, and where it stands

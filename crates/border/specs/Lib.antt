@@ -1,4 +1,3 @@
-pub mod Started
 pub mod Held
 pub mod Port
 pub mod Border

@@ -2,12 +2,11 @@
 ghost use Rattle.std.specs.Prelude.{true, ◌≡◌};
 ghost use Rattle.border.specs.Held.{words_of, conversation_of, held_by, is_held};
 
-use crate::p_started::{get_place, put_place};
 use conversation::conversation::Conversation;
-use hardware::Port;
-use packed_access::p_hardware::{get_family, put_family};
-use packed_access::read::{half, joined, word_at};
-use packed_access::tape::{long, wide, word};
+use hardware::{Family, Port, Step};
+use packed::packed::Packed;
+use packed::read::{half, joined, word_at};
+use packed::tape::{long, wide, word};
 
 // The layout is the header's. What the words mean is nobody's business but this crate's.
 #[repr(C)]
@@ -18,18 +17,17 @@ pub struct Held {
 }
 
 // All words of a conversation.
-#[tactic(auto, unfolding(crate::specs::Held::words_of, crate::specs::Held::conversation_of, packed_access::specs::Tape::word_at))]
+#[tactic(auto, unfolding(crate::specs::Held::words_of, crate::specs::Held::conversation_of, packed::specs::Tape::word_at))]
 fn put_conversation(tape: &mut [u32; 65], c: Conversation)
     ensures written { tape.new ≡ words_of c }
     ensures back { conversation_of (words_of c) c.block ≡ c }
 {
-    let port = c.port;
-    let at = word(tape, 0, wide(port.device));
-    let at = word(tape, at, port.lan);
+    let at = word(tape, 0, wide(c.port.device));
+    let at = word(tape, at, c.port.lan);
     let at = long(tape, at, c.actions as usize);
     let at = long(tape, at, c.micros as usize);
-    let at = put_family(tape, at, port.family);
-    put_place(tape, at, c.place);
+    let at = c.port.family.put(tape, at);
+    c.place.put(tape, at);
 }
 
 #[tactic(auto, unfolding(crate::specs::Held::conversation_of))]
@@ -38,11 +36,11 @@ fn get_conversation(words: &[u32], block: [u32; 16]) -> Conversation
 {
     Conversation {
         port: Port {
-            family: get_family(words, 6),
+            family: Family::get(words, 6),
             device: half(word_at(words, 0, 0)),
             lan: word_at(words, 0, 1),
         },
-        place: get_place(words, 7),
+        place: Step::get(words, 7),
         block,
         actions: joined(word_at(words, 0, 2), word_at(words, 0, 3)) as u64,
         micros: joined(word_at(words, 0, 4), word_at(words, 0, 5)) as u64,

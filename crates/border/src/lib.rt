@@ -3,7 +3,6 @@
 #![tactic(auto)]
 
 pub mod held;
-pub mod p_started;
 pub mod port;
 
 ghost use Rattle.std.specs.Prelude.{◌≡◌, take};

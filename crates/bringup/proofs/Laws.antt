@@ -5,6 +5,7 @@ use mathlib.Core.Bool.{Bool, true, false}
 use Rattle.std.specs.Prelude.{Option, Some, None}
 use mathlib.Core.Path.{◌≡◌, refl, ap, sym, ◌∙◌, fun_ext}
 use Rattle.hardware.specs.declared.Family.TheVariants.{X553}
+use Rattle.hardware.specs.declared.Managed.{Managed}
 use Rattle.hardware.specs.declared.Port.{Port}
 use Rattle.answers.specs.declared.Setup553.{Setup553}
 use Rattle.answers.specs.declared.Setup553.TheVariants as setup553
@@ -66,7 +67,7 @@ module _ (after : Call Value) where
   speeds false true = refl
   speeds false false = refl
 
-module _ (port : Port) (veto : Bool) (x553 : port.family ≡ X553) where
-  pub bringup_clocked : bringup 10 port veto ≡ clock_first (speed_of port) (devices_of port veto port.family)
+module _ (managed : Managed) (x553 : managed.port.family ≡ X553) where
+  pub bringup_clocked : bringup 10 managed.port managed.veto ≡ clock_first (speed_of managed.port) (devices_of managed managed.port.family)
   unfolding bringup
-  bringup_clocked = simp x553 (sym (speeds (devices_of port veto X553) (slow_device port.device) (firmware_phy port.device)))
+  bringup_clocked = simp x553 (sym (speeds (devices_of managed X553) (slow_device managed.port.device) (firmware_phy managed.port.device)))

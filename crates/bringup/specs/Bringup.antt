@@ -6,6 +6,7 @@ use Rattle.hardware.specs.Talk.{Call, Res, end, pick, is_clear, ◌>>=◌, ◌>>
 use Rattle.std.specs.Prelude.{ℕ, Bool, true, List}
 use Rattle.hardware.specs.declared.Family.{Family}
 use Rattle.hardware.specs.declared.Family.TheVariants.{X552, X553}
+use Rattle.hardware.specs.declared.Managed.{Managed}
 use Rattle.hardware.specs.declared.Port.{Port}
 use Rattle.answers.specs.declared.CopperSetup.{CopperSetup}
 use Rattle.answers.specs.declared.Setup552.TheVariants as setup552
@@ -23,7 +24,6 @@ use Rattle.kr.specs.Sequence.{resume_sequence}
 use Rattle.phy.specs.Clock.{resume_clock}
 use Rattle.x552.specs.Link.{resume_link}
 use Rattle.x552.specs.Prepare as copper
-use Rattle.x552.specs.declared.link.Copper.{Copper}
 use Rattle.x553.specs.Firmware.{resume_firmware}
 use Rattle.x553.specs.Prepare as firmware
 use Rattle.x553.specs.Sgmii.{resume_sgmii}
@@ -56,46 +56,43 @@ abbrev pub lane_talk : Port → Lane → Call Value
 lane_talk port (lane.Kr kr) = kr_then port (kr_autoneg 10 port kr true)
 lane_talk port lane.Sgmii = answer553 (sgmii 10 port)
 
-abbrev pub vetoed_talk : Port → Bool → Lane → Call Value
-vetoed_talk port veto l = vetoed veto (return (veto_value port.family)) (lane_talk port l)
+abbrev pub vetoed_talk : Managed → Lane → Call Value
+vetoed_talk managed l = vetoed managed.veto (return (veto_value managed.port.family)) (lane_talk managed.port l)
 
 abbrev pub got_mmngc : Port → Lane → Res ℕ → Call Value
 got_mmngc port l got = end got >>= λ mmngc. pick (is_clear mmngc 1) (lane_talk port l) (return (veto_value port.family))
 
-abbrev pub got_sel : Port → Bool → Bool → Res ℕ → Call Value
-got_sel port veto kr got =
-    end got >>= λ sel. pick (is_clear sel 0x100000) (vetoed_talk port veto (lane.Kr kr)) (return (value.X553 (setup553.Kr2500 sel)))
-
-abbrev pub copper_of : Bool → X557 → Copper
-copper_of veto x = record { veto = veto; x557 = x }
+abbrev pub got_sel : Managed → Bool → Res ℕ → Call Value
+got_sel managed kr got =
+    end got >>= λ sel. pick (is_clear sel 0x100000) (vetoed_talk managed (lane.Kr kr)) (return (value.X553 (setup553.Kr2500 sel)))
 
 abbrev pub link_then : Port → Call CopperSetup → Call Value
 link_then port t = t >>= λ s. return (copper_value port.family s)
 
-abbrev pub copper_then : Port → Bool → Call X557 → Call Value
-copper_then port veto t = t >>= λ x. link_then port (copper_link 10 port veto x)
+abbrev pub copper_then : Managed → Call X557 → Call Value
+copper_then managed t = t >>= λ x. link_then managed.port (copper_link 10 managed.port managed.veto x)
 
-abbrev pub firmware_then : Port → Bool → Call x553.Prepared → Call Value
-firmware_then port veto t = t >>= λ p. answer553 (setup_prepared 10 port veto p)
+abbrev pub firmware_then : Managed → Call x553.Prepared → Call Value
+firmware_then managed t = t >>= λ p. answer553 (setup_prepared 10 managed.port managed.veto p)
 
 -- the Rust's prepare and setup, on the X553 after `set_mdio_speed`
-abbrev pub devices_of : Port → Bool → Family → Call Value
-devices_of port veto X552 = x552.prepare_then port veto (bringup552 10 port veto)
-devices_of port veto X553 = prepare_device port veto (bringup553 10 port veto)
+abbrev pub devices_of : Managed → Family → Call Value
+devices_of managed X552 = x552.prepare_then managed.port managed.veto (bringup552 10 managed.port managed.veto)
+devices_of managed X553 = prepare_device managed.port managed.veto (bringup553 10 managed.port managed.veto)
 
-abbrev pub clock_then : Port → Bool → Call (Unit {0}) → Call Value
-clock_then port veto t = t >> devices_of port veto port.family
+abbrev pub clock_then : Managed → Call (Unit {0}) → Call Value
+clock_then managed t = t >> devices_of managed managed.port.family
 
-abbrev pub resume_bringup : Port → Bool → Bringup → Res ℕ → List ℕ → Call Value
-resume_bringup port veto (bringup.Clock fast s) got ws = clock_then port veto (resume_clock fast s got)
-resume_bringup port veto (bringup.Copper s) got ws = copper_then port veto (copper.resume_prepare port veto s got)
-resume_bringup port veto (bringup.Firmware s) got ws = firmware_then port veto (firmware.resume_prepare port veto s got ws)
-resume_bringup port veto (bringup.Sel kr) got ws = got_sel port veto kr got
-resume_bringup port veto (bringup.Mmngc l) got ws = got_mmngc port l got
-resume_bringup port veto (bringup.Kr s) got ws = kr_then port (resume_sequence port s got)
-resume_bringup port veto (bringup.Sgmii s) got ws = answer553 (resume_sgmii port s got)
-resume_bringup port veto (bringup.Link x s) got ws = link_then port (resume_link port (copper_of veto x) s got)
-resume_bringup port veto (bringup.SetupFirmware s) got ws = answer553 (resume_firmware port s got ws)
+abbrev pub resume_bringup : Managed → Bringup → Res ℕ → List ℕ → Call Value
+resume_bringup managed (bringup.Clock fast s) got ws = clock_then managed (resume_clock fast s got)
+resume_bringup managed (bringup.Copper s) got ws = copper_then managed (copper.resume_prepare managed s got)
+resume_bringup managed (bringup.Firmware s) got ws = firmware_then managed (firmware.resume_prepare managed s got ws)
+resume_bringup managed (bringup.Sel kr) got ws = got_sel managed kr got
+resume_bringup managed (bringup.Mmngc l) got ws = got_mmngc managed.port l got
+resume_bringup managed (bringup.Kr s) got ws = kr_then managed.port (resume_sequence managed.port s got)
+resume_bringup managed (bringup.Sgmii s) got ws = answer553 (resume_sgmii managed.port s got)
+resume_bringup managed (bringup.Link x s) got ws = link_then managed.port (resume_link managed x s got)
+resume_bringup managed (bringup.SetupFirmware s) got ws = answer553 (resume_firmware managed.port s got ws)
 
-abbrev pub told_bringup : Port → Bool → List ℕ → Step Job Bringup (Res Value) → Call Value
-told_bringup port veto b = told_job port b (λ s got ws. resume_bringup port veto s got ws)
+abbrev pub told_bringup : Managed → List ℕ → Step Job Bringup (Res Value) → Call Value
+told_bringup managed b = told_job managed.port b (λ s got ws. resume_bringup managed s got ws)

@@ -13,14 +13,14 @@ ghost use Rattle.x552.specs.Prepare as copper;
 ghost use Rattle.x553.specs.Firmware.{told_firmware};
 ghost use Rattle.x553.specs.Prepare as firmware;
 ghost use Rattle.x553.specs.Sgmii.{told_sgmii};
-ghost use Rattle.bringup.specs.Bringup.{kr_value, veto_value, copper_value, copper_of, lane_talk, vetoed_talk, devices_of, kr_then, answer553, link_then, copper_then, firmware_then, clock_then, got_mmngc, got_sel, resume_bringup, told_bringup};
+ghost use Rattle.bringup.specs.Bringup.{kr_value, veto_value, copper_value, lane_talk, vetoed_talk, devices_of, kr_then, answer553, link_then, copper_then, firmware_then, clock_then, got_mmngc, got_sel, resume_bringup, told_bringup};
 
 use access::access::Job;
 use answers::{CopperSetup, FirmwareSetup, Setup552, Setup553, SgmiiSetup, Value, X557};
-use hardware::{Error, Family, Port, Step};
+use hardware::{Error, Family, Managed, Port, Step};
 use kr::sequence::{KrPlace, Sequence};
 use phy::clock::Clock;
-use x552::link::{Copper, CopperLink};
+use x552::link::CopperLink;
 use x552::prepare::{Phy, PrepareCopper};
 use x553::firmware::SetupFirmware;
 use x553::prepare::{FirmwarePrepared, PrepareFirmware};
@@ -83,80 +83,70 @@ fn copper_value(family: Family, set: CopperSetup) -> Value
 impl Bringup {
     #[tactic(auto, using(hardware::proofs::Laws::then_assoc))]
     fn after_kr(
-        veto: bool,
-        port: Port,
+        managed: Managed,
         step: Step<Job, Sequence, Result<u32, Error>>,
     ) -> Step<Job, Bringup, Result<Value, Error>>
-        ensures { (b : List ℕ) → told_bringup port veto b result ≡ kr_then port (told_sequence port b step) }
+        ensures { (b : List ℕ) → told_bringup managed b result ≡ kr_then managed.port (told_sequence managed.port b step) }
     {
-        let family = port.family;
         match step {
             Step::Ask(job, s) => Step::Ask(job, Bringup::Kr(s)),
-            Step::Done(r) => match r {
-                Err(e) => Step::Done(Err(e)),
-                Ok(lc1) => Step::Done(Ok(kr_value(family, lc1))),
-            },
+            Step::Done(Err(e)) => Step::Done(Err(e)),
+            Step::Done(Ok(lc1)) => Step::Done(Ok(kr_value(managed.port.family, lc1))),
         }
     }
 
     #[tactic(auto, using(hardware::proofs::Laws::then_assoc))]
     fn after_sgmii(
-        veto: bool,
-        port: Port,
+        managed: Managed,
         step: Step<Job, Sgmii, Result<SgmiiSetup, Error>>,
     ) -> Step<Job, Bringup, Result<Value, Error>>
-        ensures { (b : List ℕ) → told_bringup port veto b result ≡ answer553 (told_sgmii port b step) }
+        ensures { (b : List ℕ) → told_bringup managed b result ≡ answer553 (told_sgmii managed.port b step) }
     {
         match step {
             Step::Ask(job, s) => Step::Ask(job, Bringup::Sgmii(s)),
-            Step::Done(r) => match r {
-                Err(e) => Step::Done(Err(e)),
-                Ok(set) => Step::Done(Ok(Value::X553(Setup553::Sgmii(set)))),
-            },
+            Step::Done(Err(e)) => Step::Done(Err(e)),
+            Step::Done(Ok(set)) => Step::Done(Ok(Value::X553(Setup553::Sgmii(set)))),
         }
     }
 
     #[tactic(auto, using(hardware::proofs::Laws::then_assoc), unfolding(reference::specs::X552::kr_autoneg))]
-    fn lane(veto: bool, port: Port, lane: Lane) -> Step<Job, Bringup, Result<Value, Error>>
-        ensures { (b : List ℕ) → told_bringup port veto b result ≡ lane_talk port lane }
+    fn lane(managed: Managed, lane: Lane) -> Step<Job, Bringup, Result<Value, Error>>
+        ensures { (b : List ℕ) → told_bringup managed b result ≡ lane_talk managed.port lane }
     {
         match lane {
             Lane::Kr(kr) => {
-                let step = Sequence::start(KrPlace::Advertise(kr, true), port);
-                Bringup::after_kr(veto, port, step)
+                let step = Sequence::start(KrPlace::Advertise(kr, true), managed.port);
+                Bringup::after_kr(managed, step)
             }
-            Lane::Sgmii => Bringup::after_sgmii(veto, port, Sgmii::start(port)),
+            Lane::Sgmii => Bringup::after_sgmii(managed, Sgmii::start(managed.port)),
         }
     }
 
     fn after_mmngc(
-        veto: bool,
-        port: Port,
+        managed: Managed,
         lane: Lane,
         got: Result<u32, Error>,
     ) -> Step<Job, Bringup, Result<Value, Error>>
-        ensures { (b : List ℕ) → told_bringup port veto b result ≡ got_mmngc port lane got }
+        ensures { (b : List ℕ) → told_bringup managed b result ≡ got_mmngc managed.port lane got }
     {
-        let family = port.family;
         match got {
             Err(e) => Step::Done(Err(e)),
             Ok(mmngc) => {
                 if mmngc & 1 == 0 {
-                    Bringup::lane(veto, port, lane)
+                    Bringup::lane(managed, lane)
                 } else {
-                    Step::Done(Ok(veto_value(family)))
+                    Step::Done(Ok(veto_value(managed.port.family)))
                 }
             }
         }
     }
 
     // The veto was read before; MMNGC is read again.
-    fn vetoed(veto: bool, port: Port, lane: Lane) -> Step<Job, Bringup, Result<Value, Error>>
-        ensures { (b : List ℕ) → told_bringup port veto b result ≡ vetoed_talk port veto lane }
+    fn vetoed(managed: Managed, lane: Lane) -> Step<Job, Bringup, Result<Value, Error>>
+        ensures { (b : List ℕ) → told_bringup managed b result ≡ vetoed_talk managed lane }
     {
-        let family = port.family;
-        if veto {
-            Step::Done(Ok(veto_value(family)))
+        if managed.veto {
+            Step::Done(Ok(veto_value(managed.port.family)))
         } else {
             Step::Ask(Job::Read(Port::MMNGC), Bringup::Mmngc(lane))
         }
@@ -164,18 +154,17 @@ impl Bringup {
 
     // A board strapped for 2.5G backplane is left alone.
     fn after_sel(
-        veto: bool,
-        port: Port,
+        managed: Managed,
         kr: bool,
         got: Result<u32, Error>,
     ) -> Step<Job, Bringup, Result<Value, Error>>
-        ensures { (b : List ℕ) → told_bringup port veto b result ≡ got_sel port veto kr got }
+        ensures { (b : List ℕ) → told_bringup managed b result ≡ got_sel managed kr got }
     {
         match got {
             Err(e) => Step::Done(Err(e)),
             Ok(sel) => {
                 if sel & 0x10_0000 == 0 {
-                    Bringup::vetoed(veto, port, Lane::Kr(kr))
+                    Bringup::vetoed(managed, Lane::Kr(kr))
                 } else {
                     Step::Done(Ok(Value::X553(Setup553::Kr2500 { sel })))
                 }
@@ -185,108 +174,90 @@ impl Bringup {
 
     #[tactic(auto, using(hardware::proofs::Laws::then_assoc))]
     fn after_link(
-        veto: bool,
-        port: Port,
+        managed: Managed,
         x557: X557,
         step: Step<Job, CopperLink, Result<CopperSetup, Error>>,
     ) -> Step<Job, Bringup, Result<Value, Error>>
-        ensures { (b : List ℕ) → told_bringup port veto b result ≡ link_then port (told_link port (copper_of veto x557) b step) }
+        ensures { (b : List ℕ) → told_bringup managed b result ≡ link_then managed.port (told_link managed x557 b step) }
     {
-        let family = port.family;
         match step {
             Step::Ask(job, s) => Step::Ask(job, Bringup::Link(x557, s)),
-            Step::Done(r) => match r {
-                Err(e) => Step::Done(Err(e)),
-                Ok(set) => Step::Done(Ok(copper_value(family, set))),
-            },
+            Step::Done(Err(e)) => Step::Done(Err(e)),
+            Step::Done(Ok(set)) => Step::Done(Ok(copper_value(managed.port.family, set))),
         }
     }
 
     #[tactic(auto, using(hardware::proofs::Laws::then_assoc))]
     fn after_copper(
-        veto: bool,
-        port: Port,
+        managed: Managed,
         step: Step<Job, PrepareCopper, Result<X557, Error>>,
     ) -> Step<Job, Bringup, Result<Value, Error>>
-        ensures { (b : List ℕ) → told_bringup port veto b result ≡ copper_then port veto (copper.told_prepare port veto b step) }
+        ensures { (b : List ℕ) → told_bringup managed b result ≡ copper_then managed (copper.told_prepare managed b step) }
     {
         match step {
             Step::Ask(job, s) => Step::Ask(job, Bringup::Copper(s)),
-            Step::Done(r) => match r {
-                Err(e) => Step::Done(Err(e)),
-                Ok(x557) => {
-                    let step = CopperLink::start(Copper { veto, x557 }, port);
-                    Bringup::after_link(veto, port, x557, step)
-                }
-            },
+            Step::Done(Err(e)) => Step::Done(Err(e)),
+            Step::Done(Ok(x557)) => {
+                let step = CopperLink::start(managed, x557);
+                Bringup::after_link(managed, x557, step)
+            }
         }
     }
 
     #[tactic(auto, unfolding(reference::specs::X552::prepare_copper))]
-    fn copper(veto: bool, port: Port) -> Step<Job, Bringup, Result<Value, Error>>
-        ensures { (b : List ℕ) → told_bringup port veto b result ≡ copper_then port veto (prepare_copper port veto) }
+    fn copper(managed: Managed) -> Step<Job, Bringup, Result<Value, Error>>
+        ensures { (b : List ℕ) → told_bringup managed b result ≡ copper_then managed (prepare_copper managed.port managed.veto) }
     {
-        Bringup::after_copper(veto, port, PrepareCopper::start(veto, port))
+        Bringup::after_copper(managed, PrepareCopper::start(managed))
     }
 
     #[tactic(auto, using(hardware::proofs::Laws::then_assoc))]
     fn after_set(
-        veto: bool,
-        port: Port,
+        managed: Managed,
         step: Step<Job, SetupFirmware, Result<FirmwareSetup, Error>>,
     ) -> Step<Job, Bringup, Result<Value, Error>>
-        ensures { (b : List ℕ) → told_bringup port veto b result ≡ answer553 (told_firmware port b step) }
+        ensures { (b : List ℕ) → told_bringup managed b result ≡ answer553 (told_firmware managed.port b step) }
     {
         match step {
             Step::Ask(job, s) => Step::Ask(job, Bringup::SetupFirmware(s)),
-            Step::Done(r) => match r {
-                Err(e) => Step::Done(Err(e)),
-                Ok(set) => Step::Done(Ok(Value::X553(Setup553::Firmware(set)))),
-            },
+            Step::Done(Err(e)) => Step::Done(Err(e)),
+            Step::Done(Ok(set)) => Step::Done(Ok(Value::X553(Setup553::Firmware(set)))),
         }
     }
 
     #[tactic(auto, using(hardware::proofs::Laws::then_assoc))]
     fn after_firmware(
-        veto: bool,
-        port: Port,
+        managed: Managed,
         step: Step<Job, PrepareFirmware, Result<FirmwarePrepared, Error>>,
     ) -> Step<Job, Bringup, Result<Value, Error>>
-        ensures { (b : List ℕ) → told_bringup port veto b result ≡ firmware_then port veto (firmware.told_prepare port veto b step) }
+        ensures { (b : List ℕ) → told_bringup managed b result ≡ firmware_then managed (firmware.told_prepare managed b step) }
     {
         match step {
             Step::Ask(job, s) => Step::Ask(job, Bringup::Firmware(s)),
-            Step::Done(r) => match r {
-                Err(e) => Step::Done(Err(e)),
-                Ok(p) => {
-                    let step = SetupFirmware::start(veto, port, p);
-                    Bringup::after_set(veto, port, step)
-                }
-            },
+            Step::Done(Err(e)) => Step::Done(Err(e)),
+            Step::Done(Ok(p)) => {
+                let step = SetupFirmware::start(managed, p);
+                Bringup::after_set(managed, step)
+            }
         }
     }
 
     #[tactic(auto, using(hardware::proofs::Laws::then_assoc), unfolding(reference::specs::X553::prepare_firmware))]
-    fn firmware(
-        veto: bool,
-        port: Port,
-        block: &mut [u32; 16],
-    ) -> Step<Job, Bringup, Result<Value, Error>>
-        ensures { told_bringup port veto block.new result ≡ firmware_then port veto (prepare_firmware port veto) }
+    fn firmware(managed: Managed, block: &mut [u32; 16]) -> Step<Job, Bringup, Result<Value, Error>>
+        ensures { told_bringup managed block.new result ≡ firmware_then managed (prepare_firmware managed.port managed.veto) }
     {
-        let step = PrepareFirmware::start(veto, port, block);
-        Bringup::after_firmware(veto, port, step)
+        let step = PrepareFirmware::start(managed, block);
+        Bringup::after_firmware(managed, step)
     }
 
     // By device, of the X552.
-    fn devices552(veto: bool, port: Port) -> Step<Job, Bringup, Result<Value, Error>>
-        requires { port.family ≡ X552 }
-        ensures { (b : List ℕ) → told_bringup port veto b result ≡ devices_of port veto X552 }
+    fn devices552(managed: Managed) -> Step<Job, Bringup, Result<Value, Error>>
+        requires { managed.port.family ≡ X552 }
+        ensures { (b : List ℕ) → told_bringup managed b result ≡ devices_of managed X552 }
     {
-        let device = port.device;
-        match device {
-            0x15ab => Bringup::vetoed(veto, port, Lane::Kr(true)),
-            0x15ad => Bringup::copper(veto, port),
+        match managed.port.device {
+            0x15ab => Bringup::vetoed(managed, Lane::Kr(true)),
+            0x15ad => Bringup::copper(managed),
             0x15ae => Step::Done(Ok(Value::X552(Setup552::FirmwarePhy))),
             0x15b0 => Step::Done(Ok(Value::X552(Setup552::Xfi))),
             _ => Step::Done(Ok(Value::X552(Setup552::Kx4))),
@@ -294,125 +265,108 @@ impl Bringup {
     }
 
     // By device, of the X553, after set_mdio_speed.
+    #[tactic(auto, using(hardware::proofs::Laws::then_assoc))]
     fn devices553(
-        veto: bool,
-        port: Port,
+        managed: Managed,
         block: &mut [u32; 16],
     ) -> Step<Job, Bringup, Result<Value, Error>>
-        requires { port.family ≡ X553 }
-        ensures { told_bringup port veto block.new result ≡ devices_of port veto X553 }
+        requires { managed.port.family ≡ X553 }
+        ensures { told_bringup managed block.new result ≡ devices_of managed X553 }
     {
-        let device = port.device;
-        match device {
+        match managed.port.device {
             0x15c2 => Step::Ask(Job::Read(Phy::NW_MNG_IF_SEL), Bringup::Sel(true)),
             0x15c3 => Step::Ask(Job::Read(Phy::NW_MNG_IF_SEL), Bringup::Sel(false)),
-            0x15c6 => Bringup::vetoed(veto, port, Lane::Sgmii),
-            0x15c7 => Bringup::vetoed(veto, port, Lane::Sgmii),
-            0x15c8 => Bringup::copper(veto, port),
-            0x15e4 => Bringup::firmware(veto, port, block),
-            0x15e5 => Bringup::firmware(veto, port, block),
+            0x15c6 => Bringup::vetoed(managed, Lane::Sgmii),
+            0x15c7 => Bringup::vetoed(managed, Lane::Sgmii),
+            0x15c8 => Bringup::copper(managed),
+            0x15e4 | 0x15e5 => Bringup::firmware(managed, block),
             _ => Step::Done(Err(Error::NoPhy)),
         }
     }
 
-    fn devices(
-        veto: bool,
-        port: Port,
-        block: &mut [u32; 16],
-    ) -> Step<Job, Bringup, Result<Value, Error>>
-        ensures { told_bringup port veto block.new result ≡ devices_of port veto port.family }
+    fn devices(managed: Managed, block: &mut [u32; 16]) -> Step<Job, Bringup, Result<Value, Error>>
+        ensures { told_bringup managed block.new result ≡ devices_of managed managed.port.family }
     {
-        let family = port.family;
-        match family {
-            Family::X552 => Bringup::devices552(veto, port),
-            Family::X553 => Bringup::devices553(veto, port, block),
+        match managed.port.family {
+            Family::X552 => Bringup::devices552(managed),
+            Family::X553 => Bringup::devices553(managed, block),
         }
     }
 
     #[tactic(auto, using(hardware::proofs::Laws::then_assoc))]
     fn after_clock(
-        veto: bool,
-        port: Port,
+        managed: Managed,
         block: &mut [u32; 16],
         fast: bool,
         step: Step<Job, Clock, Result<(), Error>>,
     ) -> Step<Job, Bringup, Result<Value, Error>>
-        ensures { told_bringup port veto block.new result ≡ clock_then port veto (told_clock port fast block.old step) }
+        ensures { told_bringup managed block.new result ≡ clock_then managed (told_clock managed.port fast block.old step) }
     {
         match step {
             Step::Ask(job, s) => Step::Ask(job, Bringup::Clock(fast, s)),
-            Step::Done(r) => match r {
-                Err(e) => Step::Done(Err(e)),
-                Ok(()) => Bringup::devices(veto, port, block),
-            },
+            Step::Done(Err(e)) => Step::Done(Err(e)),
+            Step::Done(Ok(())) => Bringup::devices(managed, block),
         }
     }
 
     #[tactic(auto, using(crate::proofs::Laws::bringup_clocked))]
-    fn clocked(
-        veto: bool,
-        port: Port,
-        block: &mut [u32; 16],
-    ) -> Step<Job, Bringup, Result<Value, Error>>
-        requires { port.family ≡ X553 }
-        ensures { told_bringup port veto block.new result ≡ bringup 10 port veto }
+    fn clocked(managed: Managed, block: &mut [u32; 16]) -> Step<Job, Bringup, Result<Value, Error>>
+        requires { managed.port.family ≡ X553 }
+        ensures { told_bringup managed block.new result ≡ bringup 10 managed.port managed.veto }
     {
-        match Clock::of(port) {
-            None => Bringup::devices(veto, port, block),
+        match Clock::of(managed.port) {
+            None => Bringup::devices(managed, block),
             Some(fast) => {
-                let step = Clock::start(fast, port);
-                Bringup::after_clock(veto, port, block, fast, step)
+                let step = Clock::start(fast, managed.port);
+                Bringup::after_clock(managed, block, fast, step)
             }
         }
     }
 
     #[tactic(auto, unfolding(reference::specs::Operations::bringup))]
     pub fn start(
-        veto: bool,
-        port: Port,
+        managed: Managed,
         block: &mut [u32; 16],
     ) -> Step<Job, Bringup, Result<Value, Error>>
-        ensures { told_bringup port veto block.new result ≡ bringup 10 port veto }
+        ensures { told_bringup managed block.new result ≡ bringup 10 managed.port managed.veto }
     {
-        let family = port.family;
-        match family {
-            Family::X552 => Bringup::devices552(veto, port),
-            Family::X553 => Bringup::clocked(veto, port, block),
+        match managed.port.family {
+            Family::X552 => Bringup::devices552(managed),
+            Family::X553 => Bringup::clocked(managed, block),
         }
     }
 
     #[tactic(auto, using(hardware::proofs::Laws::then_assoc))]
     pub fn next(
         self,
-        veto: bool,
-        port: Port,
+        managed: Managed,
         block: &mut [u32; 16],
         got: Result<u32, Error>,
         words: usize,
     ) -> Step<Job, Bringup, Result<Value, Error>>
-        ensures { told_bringup port veto block.new result ≡ resume_bringup port veto self got (take words block.old) }
+        ensures { told_bringup managed block.new result ≡ resume_bringup managed self got (take words block.old) }
     {
         match self {
             Bringup::Clock(fast, s) => {
-                let step = s.next(fast, port, got);
-                Bringup::after_clock(veto, port, block, fast, step)
+                let step = s.next(fast, managed.port, got);
+                Bringup::after_clock(managed, block, fast, step)
             }
-            Bringup::Copper(s) => Bringup::after_copper(veto, port, s.next(veto, port, got)),
+            Bringup::Copper(s) => Bringup::after_copper(managed, s.next(managed, got)),
             Bringup::Firmware(s) => {
-                let step = s.next(veto, port, block, got, words);
-                Bringup::after_firmware(veto, port, step)
+                let step = s.next(managed, block, got, words);
+                Bringup::after_firmware(managed, step)
             }
-            Bringup::Sel(kr) => Bringup::after_sel(veto, port, kr, got),
-            Bringup::Mmngc(lane) => Bringup::after_mmngc(veto, port, lane, got),
-            Bringup::Kr(s) => Bringup::after_kr(veto, port, s.next(port, got)),
-            Bringup::Sgmii(s) => Bringup::after_sgmii(veto, port, s.next(port, got)),
+            Bringup::Sel(kr) => Bringup::after_sel(managed, kr, got),
+            Bringup::Mmngc(lane) => Bringup::after_mmngc(managed, lane, got),
+            Bringup::Kr(s) => Bringup::after_kr(managed, s.next(managed.port, got)),
+            Bringup::Sgmii(s) => Bringup::after_sgmii(managed, s.next(managed.port, got)),
             Bringup::Link(x557, s) => {
-                let step = s.next(Copper { veto, x557 }, port, got);
-                Bringup::after_link(veto, port, x557, step)
+                let step = s.next(managed, x557, got);
+                Bringup::after_link(managed, x557, step)
             }
             Bringup::SetupFirmware(s) => {
-                let step = s.next(port, block, got, words);
-                Bringup::after_set(veto, port, step)
+                let step = s.next(managed.port, block, got, words);
+                Bringup::after_set(managed, step)
             }
         }
     }

@@ -8,9 +8,8 @@ use Rattle.conversation.specs.Conversation.{Conv}
 use Rattle.conversation.specs.Run.{Shown, shown_of, left}
 use Rattle.conversation.specs.declared.run.Ran.{Ran}
 use Rattle.conversation.proofs.Theorems.{Placed, placed}
-use Rattle.lines.specs.Listing.{Added, action_text, lines_text}
+use Rattle.lines.specs.Listing.{action_text, lines_text}
 use Rattle.console.specs.Turn.{ran_three, Turn}
-use Rattle.lines.proofs.ListingLaws.{added_none}
 
 three : (l : List ℕ) → length l ≡ 3 → lines_text (take 3 l) ≡ action_text (get_or l 0 0) (get_or l 1 0) (get_or l 2 0)
 three [] h = absurd (omega arith)
@@ -28,22 +27,22 @@ module _ (c : Conv) (rs : List ℕ) (r : Ran) (t : List ℕ) (e : shown_of r t �
   text_same : t ≡ (ran_three c rs).tape.transcript
   text_same = ap (λ (s : Shown). s.tape.transcript) e
 
-  pub turned_none : (old : List ℕ) → r.at ≡ 0 → Turn c rs (record { stop = r.stop; to = r.to; len = 0 }) old old
-  turned_none old h =
+  pub turned_none : {line : List ℕ} → line ≡ [] → r.at ≡ 0 → Turn c rs (record { stop = r.stop; to = r.to }) line
+  turned_none none h =
       record {
         stop = ap (λ (s : Shown). s.stop) e;
         to = ap left e;
-        text = rw (← at_same, h) (added_none old 0);
+        text = rw (← at_same, h) none;
       }
 
-  pub turned_one : {old new : List ℕ} {len : ℕ} → (r.at ≡ 0 → ⊥) → Added old 0 (action_text (get_or t 0 0) (get_or t 1 0) (get_or t 2 0)) len new
-      → Turn c rs (record { stop = r.stop; to = r.to; len = len }) old new
-  turned_one {old} {new} {len} h a =
+  pub turned_one : {line : List ℕ} → (r.at ≡ 0 → ⊥) → line ≡ action_text (get_or t 0 0) (get_or t 1 0) (get_or t 2 0)
+      → Turn c rs (record { stop = r.stop; to = r.to }) line
+  turned_one h text =
       let p : Placed (ran_three c rs) (0 ∷ 0 ∷ 0 ∷ []) 0 = put_down in
       let all : r.at ≡ 3 = omega (arith, at_same, p.place, p.within) in
       let long : length t ≡ 3 = ap length text_same ∙ p.same_length in
       record {
         stop = ap (λ (s : Shown). s.stop) e;
         to = ap left e;
-        text = rw (← at_same, all, ← text_same, three t long) a;
+        text = rw (← at_same, all, ← text_same, three t long) text;
       }

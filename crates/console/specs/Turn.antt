@@ -2,13 +2,13 @@
 use Rattle.std.specs.Prelude.{ℕ, ◌≡◌, List, [], ◌∷◌, take}
 use Rattle.conversation.specs.Conversation.{Conv, conv_of}
 use Rattle.conversation.specs.Run.{Shown, left, run_all}
-use Rattle.lines.specs.Listing.{Added, lines_text}
+use Rattle.lines.specs.Listing.{lines_text}
 use Rattle.console.specs.declared.turn.Turned.{Turned}
 
 abbrev pub ran_three : Conv → List ℕ → Shown
 ran_three c rs = run_all c rs (0 ∷ 0 ∷ 0 ∷ []) 0
 
-pub record Turn (c : Conv) (rs : List ℕ) (r : Turned) (old new : List ℕ) : Type 0 where
+pub record Turn (c : Conv) (rs : List ℕ) (r : Turned) (line : List ℕ) : Type 0 where
   pub stop : r.stop ≡ (ran_three c rs).stop
   pub to : conv_of r.to ≡ left (ran_three c rs)
-  pub text : Added old 0 (lines_text (take (ran_three c rs).tape.at (ran_three c rs).tape.transcript)) r.len new
+  pub text : line ≡ lines_text (take (ran_three c rs).tape.at (ran_three c rs).tape.transcript)

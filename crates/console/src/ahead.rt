@@ -18,14 +18,11 @@ pub fn ahead<W: Write>(from: Moved, buf: &[u8], sink: &mut W, out: &mut [u8]) ->
     let mut words = [0u32; 128];
     let mut behind = [0usize; 64];
     let mut t = [0u32; 384];
-    let input = from.input;
-    let count = read_ahead(buf, input, &mut words, &mut behind);
-    let c = from.to;
-    let ran = run(c, first(&words, count), &mut t, 0);
-    let to = ran.to;
+    let count = read_ahead(buf, from.input, &mut words, &mut behind);
+    let ran = run(from.to, first(&words, count), &mut t, 0);
     Ok(Moved {
-        to,
-        input: behind_used(input, &behind, ran.used),
+        to: ran.to,
+        input: behind_used(from.input, &behind, ran.used),
         n: print_lines(&t, ran.at, sink, out, from.n)?,
     })
 }

@@ -34,8 +34,7 @@ pub fn ended<W: Write>(
     out: &mut [u8],
     n: usize,
 ) -> io::Result<usize> {
-    let block = c.block;
-    let end = last(answer, block, c.actions, c.micros, sink, out, n)?;
+    let end = last(answer, c.block, c.actions, c.micros, sink, out, n)?;
     if asked {
         return left(c, words, sink, out, end);
     }

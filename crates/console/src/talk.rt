@@ -1,9 +1,10 @@
 // A conversation that has begun, to its end.
 use crate::ahead::{Moved, ahead};
 use crate::ending::ended;
-use crate::turn::turn;
+use crate::turn::{Turned, turn};
 use conversation::conversation::{Conversation, Stop};
 use hardware::Step;
+use lines::listing::Line;
 use std::io;
 use std::io::{Read, Write};
 use streams::due::{Answered, answer};
@@ -34,13 +35,12 @@ fn act<W: Write>(
     out: &mut [u8],
     n: usize,
 ) -> io::Result<Moved> {
-    let mut line = [0u8; 512];
-    let t = turn(c, &[kind, value], &mut line);
-    let to = t.to;
+    let mut line = Line::new();
+    let Turned { to, .. } = turn(c, &[kind, value], &mut line);
     Ok(Moved {
         to,
         input,
-        n: print(sink, out, n, &line, t.len)?,
+        n: print(sink, out, n, line.as_slice())?,
     })
 }
 

@@ -1,16 +1,13 @@
 -- What the code's functions need of the definitions
 use Rattle.hardware.specs.Talk.{Talk, ask, end, Reply}
-use Rattle.std.proofs.Common.{◌≡◌, ℕ, suc, ◌+◌, ◌-◌, ◌<◌, ◌≤◌, true, false, List, [], ◌∷◌, ◌++◌, length, get_or, take, drop, set, replicate, sym, refl, ap, ◌∙◌, append-nil, add-zero, add_assoc, add-suc, suc-add, zero-add, add-one, arith, length-drop, take-append-drop, drop_of_length-le, length-take-le, take_all, drop-cons, drop-drop, take_at, le-ltb, lt-ltb, Ok}
-use native.Mathlib.Numerals.{add-two}
-use lib.Seq.{sets, length-sets, paste, paste-suc, take-length, length-paste}
+use Rattle.std.proofs.Common.{◌≡◌, ℕ, suc, ◌+◌, ◌-◌, ◌<◌, ◌≤◌, true, false, List, [], ◌∷◌, ◌++◌, length, get_or, take, drop, set, replicate, sym, refl, ap, ◌∙◌, append-nil, add-zero, add_assoc, add-suc, suc-add, zero-add, arith, length-drop, take-append-drop, drop_of_length-le, length-take-le, take_all, drop-drop, take_at, le-ltb, lt-ltb, Ok}
+use lib.Seq.{sets, length-sets}
 use Rattle.hardware.specs.Refusal.{refusal}
 use Rattle.hardware.specs.declared.Port.{Port}
 use Rattle.reference.specs.Operations.{operation}
 use Rattle.hardware.specs.declared.Action.{Action}
 use Rattle.drive.specs.Act.{uses, words, reply_for}
-use Rattle.drive.specs.Moves.{Tape, on_tape, tape, Moves, stays, goes}
-use Rattle.drive.specs.declared.Host.{Host}
-use Rattle.drive.proofs.Laws.{act_done, told_as}
+use Rattle.drive.specs.Moves.{Tape, on_tape, Moves, stays, goes}
 use Rattle.conversation.specs.Conversation.{Conv, conv_of, gone, refuses, step_talk, padded, opening, begun}
 use Rattle.start.specs.Operation.{phy_of, device_of, op_of}
 use Rattle.started.specs.Operation.{Out, told}

@@ -90,6 +90,7 @@ fn give_first(own: &[u32], words: usize, block: &mut [u32]) -> Result<(), Error>
 }
 
 // The place of an operation's first step.
+#[tactic(auto, using(hardware::proofs::Laws::then_assoc))]
 fn placed(port: Port, block: &mut [u32; 16], first: First) -> Step<Action, Op, Ended>
     ensures { told port result block.new ≡ told_first port block.old first }
 {
@@ -100,13 +101,15 @@ fn placed(port: Port, block: &mut [u32; 16], first: First) -> Step<Action, Op, E
 }
 
 // Whether an action does not take a reply of this kind, a number as C has it. A wait takes any.
+#[tactic(auto, using(std::proofs::Common::ne_eqb))]
 fn is_refused(a: Action, kind: u32) -> bool
     ensures { refuses a kind ≡ result }
 {
-    if uses_of(a) == 0 { false } else { kind > 1 }
+    uses_of(a) != 0 && kind > 1
 }
 
 // What an action is answered with by a reply's two words. A wait uses neither.
+#[tactic(auto, using(std::proofs::Common::ne_eqb))]
 fn reply_to(a: Action, kind: u32, value: u32) -> Reply
     ensures { reply_for a (kind ∷ value ∷ []) ≡ result }
 {
@@ -123,9 +126,9 @@ fn left_by(value: Value, own: Left) -> Left
 {
     match value {
         Value::Poll {
-            copper: _,
             forced,
             reforced,
+            ..
         } => Left { forced, reforced },
         _ => own,
     }
@@ -150,6 +153,7 @@ impl Conversation {
     }
 
     // Begins an operation, with the words of its host block, of which only `command` makes use.
+    #[tactic(auto, using(hardware::proofs::Refusal::taken, crate::proofs::Laws::not_refused))]
     pub fn begin(port: Port, what: Operation, block: &[u32]) -> Conversation
         ensures { conv_of result ≡ begun port what block.now }
     {
@@ -171,27 +175,27 @@ impl Conversation {
     }
 
     // The action is answered, and counted.
+    #[tactic(auto, using(hardware::proofs::Laws::then_assoc))]
     pub fn answered(self, a: Action, op: Op, reply: Reply) -> Conversation
         ensures { conv_of result ≡ gone (conv_of self) a (resume_op self.port op reply self.block) }
     {
-        let port = self.port;
         let mut block = self.block;
-        let place = op.next(port, &mut block, reply);
+        let place = op.next(self.port, &mut block, reply);
         Conversation {
-            port,
             place,
             block,
-            actions: std::num::wrapping_add_u64(self.actions, 1),
-            micros: std::num::wrapping_add_u64(self.micros, waited_of(a)),
+            actions: self.actions.wrapping_add(1),
+            micros: self.micros.wrapping_add(waited_of(a)),
+            ..self
         }
     }
 
     // One action is answered with a reply's two words.
+    #[tactic(auto, using(crate::proofs::Laws::at_place, crate::proofs::Laws::step_refused, crate::proofs::Laws::step_done))]
     pub fn step(self, kind: u32, value: u32) -> Stepped
         ensures { stepped_of result ≡ step_talk (conv_of self) kind value }
     {
-        let place = self.place;
-        match place {
+        match self.place {
             Step::Done(_) => Stepped {
                 stop: Stop::AfterEnd,
                 to: self,
@@ -217,13 +221,9 @@ impl Conversation {
     pub fn hand_back(self, block: &mut [u32]) -> Result<(), Error>
         ensures { (result, block.new) ≡ handed_back (conv_of self).talk block.old }
     {
-        let place = self.place;
-        match place {
+        match self.place {
             Step::Ask(_, _) => Err(Error::Block),
-            Step::Done(ended) => {
-                let own = self.block;
-                give_first(&own, ended.words, block)
-            }
+            Step::Done(ended) => give_first(&self.block, ended.words, block),
         }
     }
 
@@ -231,18 +231,18 @@ impl Conversation {
     pub fn left(self, watch: Watch) -> Left
         ensures { left_of (conv_of self).talk (own_of watch) ≡ result }
     {
-        let forced = watch.forced;
         let own = Left {
-            forced,
+            forced: watch.forced,
             reforced: watch.reforced,
         };
-        let place = self.place;
-        match place {
-            Step::Ask(_, _) => own,
-            Step::Done(ended) => match ended.answer {
-                Err(_) => own,
-                Ok(value) => left_by(value, own),
-            },
+        match self.place {
+            Step::Done(
+                Ended {
+                    answer: Ok(value),
+                    ..
+                },
+            ) => left_by(value, own),
+            _ => own,
         }
     }
 }

@@ -31,6 +31,7 @@ struct Reached {
 }
 
 // As far as accesses go by themselves, one after the other.
+#[tactic(auto, using(drive::specs::Moves::stays, started::proofs::Laws::told_at, drive::proofs::Laws::from_as))]
 fn ahead(
     place: Step<Action, Op, Ended>,
     port: Port,
@@ -48,6 +49,7 @@ fn ahead(
 }
 
 // The run's loop: as far as accesses go by themselves, then one action, from where the last turn came.
+#[tactic(auto, using(drive::specs::Moves::stays, drive::proofs::Laws::act_short, drive::proofs::Laws::act_done, drive::proofs::Laws::then, drive::proofs::Laws::moves_less, drive::proofs::Laws::moves_within, crate::proofs::Laws::run_ended, crate::proofs::Laws::run_full, crate::proofs::Laws::run_dry))]
 fn run_from(
     from: Step<Action, Op, Ended>,
     port: Port,
@@ -93,8 +95,6 @@ fn run_on(c: Conversation, replies: &[u32], t: &mut [u32]) -> Ran
     ensures t_after { shown_of result t.new ≡ run_into (conv_of c) replies.now t.old 0 0 }
     ensures at_in_bounds { result.at ≤ length t.old }
 {
-    let port = c.port;
-    let place = c.place;
     let mut block = c.block;
     let mut h = Host {
         used: 0,
@@ -102,11 +102,11 @@ fn run_on(c: Conversation, replies: &[u32], t: &mut [u32]) -> Ran
         actions: c.actions,
         micros: c.micros,
     };
-    let reached = run_from(place, port, &mut block, &mut h, replies, t);
+    let reached = run_from(c.place, c.port, &mut block, &mut h, replies, t);
     Ran {
         stop: reached.stop,
         to: Conversation {
-            port,
+            port: c.port,
             place: reached.place,
             block,
             actions: h.actions,
@@ -118,14 +118,12 @@ fn run_on(c: Conversation, replies: &[u32], t: &mut [u32]) -> Ran
 }
 
 // An odd length, or a kind above 1.
+#[tactic(auto, using(crate::proofs::Laws::bad_short, crate::proofs::Laws::bad_first, crate::proofs::Laws::bad_then))]
 fn is_bad(replies: &[u32]) -> bool
     ensures { bad replies.now ≡ result }
 {
     for pair in replies.chunks(2) {
-        if pair.len() < 2 {
-            return true;
-        }
-        if pair[0] > 1 {
+        if pair.len() < 2 || pair[0] > 1 {
             return true;
         }
     }
@@ -133,11 +131,11 @@ fn is_bad(replies: &[u32]) -> bool
 }
 
 // Runs the conversation over the replies, writing each action's three words from place `at` of the transcript on.
+#[tactic(auto, using(crate::proofs::Laws::at_place, crate::proofs::Laws::within_part, crate::proofs::Laws::all_ended, crate::proofs::Laws::all_bad, crate::proofs::Laws::all_full))]
 pub fn run(c: Conversation, replies: &[u32], transcript: &mut [u32], at: usize) -> Ran
     ensures { shown_of result transcript.new ≡ run_all (conv_of c) replies.now transcript.old at }
 {
-    let place = c.place;
-    if let Step::Done(_) = place {
+    if let Step::Done(_) = c.place {
         return Ran {
             stop: Stop::AfterEnd,
             to: c,
@@ -162,12 +160,5 @@ pub fn run(c: Conversation, replies: &[u32], transcript: &mut [u32], at: usize) 
         };
     }
     let r = run_on(c, replies, &mut transcript[at..]);
-    let stop = r.stop;
-    let to = r.to;
-    Ran {
-        stop,
-        to,
-        at: at + r.at,
-        used: r.used,
-    }
+    Ran { at: at + r.at, ..r }
 }

@@ -1,18 +1,28 @@
 -- What goes on
-use Rattle.std.proofs.Common.{◌≡◌, ℕ, ◌+◌, ◌-◌, ◌%◌, ◌^◌, ◌<◌, ◌≤◌, List, length, drop, sym, refl, subst, arith}
+use Rattle.std.proofs.Common.{◌≡◌, ℕ, ◌+◌, ◌-◌, ◌%◌, ◌^◌, ◌<◌, ◌≤◌, List, length, drop, sym, refl, ap, subst, arith, add-zero, get_or-drop, ne_eqb}
 use lib.Seq.{sets, length-sets}
 use Rattle.hardware.specs.Bound.{waited}
 use Rattle.hardware.specs.Talk.{Talk, Reply, ask, and_then}
 use Rattle.hardware.specs.declared.Action.{Action}
 use Rattle.hardware.specs.declared.Action.TheVariants.{Read, Write, Wait}
 use Rattle.std.specs.Prelude.{Option, Some, None}
-use Rattle.drive.specs.Act.{uses, words, reply_for}
+use Rattle.hardware.specs.Told.{told}
+use Rattle.hardware.specs.declared.Step.{Step}
+use Rattle.hardware.specs.declared.Step.TheVariants.{Ask}
+use Rattle.script.specs.Script.{pair_at}
+use Rattle.script.proofs.Laws.{are}
+use Rattle.drive.specs.Act.{uses, words, reply_of, reply_for}
 use Rattle.drive.specs.Moves.{Tape, on_tape, Moves, stays, goes, Acts, ActsBy}
 
 pub uses_two : (a : Action) → (uses a ≡ 0 → ⊥) → uses a ≡ 2
 uses_two (Read reg) h = refl
 uses_two (Write reg v) h = refl
 uses_two (Wait micros) h = absurd (h refl)
+
+-- a reply's two words, read at a place of the script
+pub reply_read : (a : Action) (rs : List ℕ) (used : ℕ) {kind value : ℕ} → (uses a ≡ 0 → ⊥) → pair_at rs used ≡ Some (kind, value)
+    → reply_for a (drop used rs) ≡ reply_of kind value
+reply_read a rs used h e = let words = are rs used e in simp (ne_eqb _ _ h, get_or-drop, add-zero, words.0, words.1)
 
 -- further on, in two parts
 pub then : {A : Type 0} {rs : List ℕ} {m n o : Talk A} {t u v : Tape} → Moves rs m t n u → Moves rs n u o v → Moves rs m t o v
@@ -53,6 +63,27 @@ told_as {rs = rs} {m₀ = m₀} {t₀ = t₀} {t = t} e p = subst (λ (x : Talk 
 
 pub from_as : {A : Type 0} {rs : List ℕ} {m n o : Talk A} {t u : Tape} → n ≡ m → Moves rs m t o u → Moves rs n t o u
 from_as {rs = rs} {o = o} {t = t} {u = u} e p = subst (λ (x : Talk _). Moves rs x t o u) (sym e) p
+
+pub said_as : {A : Type 0} {rs : List ℕ} {m n o p : Talk A} {t u : Tape} → o ≡ m → p ≡ n → Moves rs m t n u → Moves rs o t p u
+said_as start end q = from_as start (told_as (sym end) q)
+
+-- the whole by what is inside
+pub moved : {A B : Type 0} {rs : List ℕ} (f : A → Talk B) {m n : Talk A} {o p : Talk B} {t u : Tape}
+    → o ≡ and_then m f → p ≡ and_then n f → Moves rs m t n u → Moves rs o t p u
+moved f start end q = said_as start end (inside f q)
+
+-- an action by itself
+module _ {rs : List ℕ} {a : Action} {t t' : Tape} {r : Option Reply} {A : Type 0} {k : Reply → Talk A} where
+  pub single_short : Acts a rs t r t' → r ≡ None → Moves rs (ask a k) t (ask a k) t'
+  single_short e c = act_short e c stays
+
+  pub single_done : {reply : Reply} {n : Talk A} → Acts a rs t r t' → r ≡ Some reply → n ≡ k reply → Moves rs (ask a k) t n t'
+  single_done e c same = told_as (sym same) (act_done e c stays)
+
+-- further on, to a step that asks
+pub then_asks : {S A : Type 0} {rs : List ℕ} {m n : Talk A} {t u v : Tape} {step : Step Action S A} {b : Action} {s : S}
+    → (resume : S → Reply → Talk A) → Moves rs m t n u → Moves rs n u (told resume step) v → step ≡ Ask b s → Moves rs m t (ask b (resume s)) v
+then_asks resume p q e = told_as (ap (told resume) e) (then p q)
 
 -- the room that is left shrinks, unless nothing is done
 pub moves_le : {A : Type 0} {rs : List ℕ} {m n : Talk A} {t u : Tape} → Moves rs m t n u → length u.transcript - u.at ≤ length t.transcript - t.at

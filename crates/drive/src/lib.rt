@@ -91,7 +91,7 @@ fn write_down(t: &mut [u32], at: usize, a: Action)
 }
 
 // What an action is answered at a place of the script.
-#[tactic(auto, using(script::proofs::Laws::are, script::proofs::Laws::has_none, crate::proofs::Laws::uses_two))]
+#[tactic(auto, using(script::proofs::Laws::has_none, crate::proofs::Laws::uses_two, crate::proofs::Laws::reply_read))]
 fn reply_at(a: Action, replies: &[u32], used: usize) -> Reply
     requires { used + uses a ≤ length replies.now }
     ensures { reply_for a (drop used replies.now) ≡ result }
@@ -131,8 +131,8 @@ pub fn act(h: &mut Host, a: Action, replies: &[u32], t: &mut [u32]) -> Option<Re
     *h = Host {
         used: used + need,
         at: at + 3,
-        actions: std::num::wrapping_add_u64(h.actions, 1),
-        micros: std::num::wrapping_add_u64(h.micros, waited_of(a)),
+        actions: h.actions.wrapping_add(1),
+        micros: h.micros.wrapping_add(waited_of(a)),
     };
     Some(reply)
 }

@@ -21,6 +21,7 @@ pub trait Machine: Copy {
 }
 
 // One action over a script, where there are a reply and room for it.
+#[tactic(auto, using(crate::proofs::Laws::single_short, crate::proofs::Laws::single_done))]
 pub fn single<M: Machine>(
     s: M,
     a: Action,
@@ -55,6 +56,7 @@ pub trait Runs: Machine {
 }
 
 // Over a script, as far as it goes. By a loop: each turn goes on from where the last one came, and how far is not known before.
+#[tactic(auto, using(crate::specs::Moves::stays, crate::proofs::Laws::then, crate::proofs::Laws::then_asks, crate::proofs::Laws::moves_less))]
 pub fn run<M: Runs>(
     from: M,
     first: Action,

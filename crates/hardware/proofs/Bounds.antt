@@ -5,8 +5,7 @@ use mathlib.Core.Bool.{Bool, true, false}
 use native.Mathlib.Omega.{arith}
 use native.Mathlib.Nat.{suc-mul}
 use Rattle.hardware.specs.Bound.{Within, at_end, at_ask}
-use Rattle.hardware.specs.Talk.{Talk, Res, pick, and_then, or_stop, checked, read, times}
-use Rattle.hardware.specs.declared.Action.TheVariants as action
+use Rattle.hardware.specs.Talk.{Talk, Res, pick, and_then, or_stop, times}
 
 pub within_more : {A : Type 0} {t : Talk A} {n m n' m' : ℕ} → n ≤ n' → m ≤ m' → Within t n m → Within t n' m'
 within_more h k at_end = at_end
@@ -35,8 +34,3 @@ within_times turn after d e zero n m h w = within_more {n = n} {m = m} (omega ar
 within_times turn after d e (suc x) n m h w =
     within_more {n = d + (x * d + n)} {m = e + (x * e + m)} (omega (arith, suc-mul x d)) (omega (arith, suc-mul x e))
     (h (times x turn after) (x * d + n) (x * e + m) (within_times turn after d e x n m h w))
-
--- `read`, and what goes on from its value
-pub within_read : {A : Type 0} {reg n m : ℕ} {k : ℕ → Talk (Res A)} → ((v : ℕ) → Within (k v) n m) → Within (and_then (read reg) (or_stop k)) (suc n) m
-within_read {reg = reg} {n = n} {m = m} h =
-    at_ask {a = action.Read reg} {n = n} {m = m} {n' = suc n} {m' = m} (omega arith) (omega arith) (λ r. within_stop (checked r) h)

@@ -1,8 +1,11 @@
 -- The laws of conversations: going on from an end, regrouping, and a bounded loop by the code's count of the turns left
 use Prim.Native.Nat.{ℕ, suc, ◌+◌, ◌-◌, ◌≤◌, ◌<◌}
-use mathlib.Core.Path.{◌≡◌, refl, ap, fun_ext}
+use mathlib.Core.Path.{◌≡◌, refl, ap, fun_ext, ◌∙◌}
 use native.Mathlib.Omega.{arith}
-use Rattle.hardware.specs.Talk.{Talk, end, ask, and_then, times}
+use Rattle.hardware.specs.Talk.{Talk, Reply, end, ask, and_then, times}
+use Rattle.hardware.specs.Told.{told}
+use Rattle.hardware.specs.declared.Action.{Action}
+use Rattle.hardware.specs.declared.Step.{Step}
 
 pub then_end : {A : Type 0} (t : Talk A) → and_then t end ≡ t
 then_end (end a) = refl
@@ -11,6 +14,11 @@ then_end (ask a c) = ap (ask a) (fun_ext (λ r. then_end (c r)))
 pub then_assoc : {A B C : Type 0} (t : Talk A) (k : A → Talk B) (l : B → Talk C) → and_then (and_then t k) l ≡ and_then t (λ a. and_then (k a) l)
 then_assoc (end a) k l = refl
 then_assoc (ask a c) k l = ap (ask a) (fun_ext (λ r. then_assoc (c r) k l))
+
+-- what a step says goes on as what the step inside says does
+pub then_said : {S T A B : Type 0} (r : T → Reply → Talk B) (s : Step Action T B) (q : S → Reply → Talk A) (step : Step Action S A) (k : A → Talk B) {t : Talk A}
+    → told r s ≡ and_then (told q step) k → told q step ≡ t → told r s ≡ and_then t k
+then_said r s q step k e f = e ∙ ap (λ u. and_then u k) f
 
 pub times_none : {n : ℕ} → n ≡ 0 → {X : Type 0} (turn : X → X) (after : X) → times n turn after ≡ after
 unfolding times

@@ -1,5 +1,5 @@
 // hardware.rs: what is the same for every operation. A port, the actions that the host is asked for and its replies, the
-// errors, and what a Rust function of type R<()> or R<u32> gives back.
+// errors, and what the Rust's `read`, `io.read` and `write` make of a reply, a Result whose error is `Error`.
 #![tactic(auto)]
 
 ghost use Rattle.std.specs.Prelude.{◌≡◌};
@@ -21,6 +21,13 @@ pub struct Port {
     pub family: Family,
     pub device: u16,
     pub lan: u32,
+}
+
+// A port, and whether manageability firmware has vetoed link changes (MMNGC.MNG_VETO).
+#[derive(Clone, Copy)]
+pub struct Managed {
+    pub port: Port,
+    pub veto: bool,
 }
 
 // What the host is asked for: read a register, write a value to one, or wait some microseconds.
@@ -128,11 +135,9 @@ impl Port {
     fn is_fiber(self) -> bool
         ensures { is_fiber self ≡ result }
     {
-        let family = self.family;
-        let device = self.device;
-        match family {
-            Family::X552 => device == 0x15ac,
-            Family::X553 => device == 0x15c4 || device == 0x15ce,
+        match self.family {
+            Family::X552 => self.device == 0x15ac,
+            Family::X553 => self.device == 0x15c4 || self.device == 0x15ce,
         }
     }
 

@@ -4,7 +4,7 @@ ghost use Rattle.hardware.specs.Talk.{ask};
 ghost use Rattle.hardware.specs.Regs.{regs};
 ghost use Rattle.hardware.specs.declared.Action.TheVariants.{Read};
 ghost use Rattle.reference.specs.Sync.{both};
-ghost use Rattle.reference.specs.Hostif.{command};
+ghost use Rattle.reference.specs.Hostif.{command, exchange};
 ghost use Rattle.sync.specs.Sync.{told_sync};
 ghost use Rattle.hostif.specs.Exchange.{told_exchange};
 ghost use Rattle.hostif.specs.Command.{resume_command, told_command, command_acquired, command_after_body, command_released, command_synced};
@@ -23,6 +23,7 @@ pub enum CommandPlace {
     Releasing(Result<u32, Error>),
 }
 
+// Its answer is the exchange's, the reply's status.
 #[derive(Clone, Copy)]
 pub enum Command {
     Sync(CommandPlace, Sync),
@@ -33,13 +34,9 @@ pub enum Command {
 pub fn both(res: Result<u32, Error>, released: Result<(), Error>) -> Result<u32, Error>
     ensures { both res released ≡ result }
 {
-    match res {
-        Err(e) => Err(e),
-        Ok(value) => match released {
-            Ok(()) => Ok(value),
-            Err(e) => Err(e),
-        },
-    }
+    let value = res?;
+    released?;
+    Ok(value)
 }
 
 impl Command {
@@ -51,11 +48,15 @@ impl Command {
     {
         match step {
             Step::Ask(a, s) => Step::Ask(a, Command::Sync(CommandPlace::Acquiring, s)),
-            Step::Done(r) => match r {
-                Ok(()) => Command::after_body(port, Exchange::start()),
-                Err(e) => Step::Done(Err(e)),
-            },
+            Step::Done(Ok(())) => Command::body(port),
+            Step::Done(Err(e)) => Step::Done(Err(e)),
         }
+    }
+
+    fn body(port: Port) -> Step<Action, Command, Result<u32, Error>>
+        ensures { (b : List ℕ) → told_command port b result ≡ command_after_body port (exchange b) }
+    {
+        Command::after_body(port, Exchange::start())
     }
 
     // Whatever the body gave, SW_MNG is given back.

@@ -8,6 +8,7 @@ use crate::post::Post;
 use hardware::{Action, Error, Reply, Step, raw};
 use words::hostif::{FLEX_MNG, fits, flex_mng, reply_words};
 
+// Its answer is the reply's status.
 #[derive(Clone, Copy)]
 pub enum Exchange {
     Post(Post),
@@ -25,10 +26,8 @@ impl Exchange {
     {
         match step {
             Step::Ask(a, s) => Step::Ask(a, Exchange::Post(s)),
-            Step::Done(r) => match r {
-                Err(e) => Step::Done(Err(e)),
-                Ok(last) => Step::Ask(Action::Read(FLEX_MNG), Exchange::Head(last)),
-            },
+            Step::Done(Err(e)) => Step::Done(Err(e)),
+            Step::Done(Ok(last)) => Step::Ask(Action::Read(FLEX_MNG), Exchange::Head(last)),
         }
     }
 

@@ -6,6 +6,7 @@ ghost use Rattle.hostif.specs.Post.{resume_post, told_post, post_fwsts, post_hic
 use hardware::{Action, Error, Reply, Step, checked, done};
 use words::hostif::flex_mng;
 
+// Its answer is the last HICR.
 #[derive(Clone, Copy)]
 pub enum Post {
     Fwsts,
@@ -116,12 +117,8 @@ impl Post {
     fn posted(last: u32) -> Step<Action, Post, Result<u32, Error>>
         ensures { (b : List ℕ) → told_post b result ≡ posted last }
     {
-        if last & Post::C == 0 {
-            if last & Post::SV == 0 {
-                Step::Done(Err(Error::HostInterface { hicr: last }))
-            } else {
-                Step::Done(Ok(last))
-            }
+        if last & Post::C == 0 && last & Post::SV != 0 {
+            Step::Done(Ok(last))
         } else {
             Step::Done(Err(Error::HostInterface { hicr: last }))
         }

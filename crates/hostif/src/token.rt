@@ -1,5 +1,5 @@
 // hostif.rs's `token`: a command of two words, so its state is the command's. It takes the first two places of the lent block.
-ghost use Rattle.std.specs.Prelude.{ℕ, ◌≤◌, List, ◌≡◌, length, take};
+ghost use Rattle.std.specs.Prelude.{ℕ, List, ◌≡◌, take};
 ghost use Rattle.hardware.specs.Talk.{ask, end};
 ghost use Rattle.hardware.specs.Regs.{regs};
 ghost use Rattle.hardware.specs.declared.Action.TheVariants.{Read};
@@ -60,13 +60,8 @@ impl Token {
     pub fn answered(self, got: Result<u32, Error>) -> Result<bool, Error>
         ensures { token_got self.take got ≡ end result }
     {
-        match got {
-            Err(e) => Err(e),
-            Ok(status) => {
-                let byte = (status % 256) as u8;
-                self.status(byte)
-            }
-        }
+        let status = got?;
+        self.status((status % 256) as u8)
     }
 
     pub fn after_command(
@@ -82,19 +77,11 @@ impl Token {
         }
     }
 
-    fn put_two(self, port: Port, block: &mut [u32])
-        requires { 2 ≤ length block.old }
-        ensures { take 2 block.new ≡ token_block port self.take }
-    {
-        block[0] = Token::HEADER;
-        block[1] = self.word(port);
-    }
-
     // The command's two words.
     pub fn put(self, port: Port, block: &mut [u32; 16])
         ensures { take 2 block.new ≡ token_block port self.take }
     {
-        self.put_two(port, block);
+        block[..2].copy_from_slice(&[Token::HEADER, self.word(port)]);
     }
 
     // At its first action, the command's.
@@ -114,8 +101,7 @@ impl Token {
     ) -> Step<Action, Command, Result<bool, Error>>
         ensures { told_token port self.take block.new result ≡ token port self.take }
     {
-        let family = port.family;
-        let regs = Regs::from(family);
+        let regs = Regs::from(port.family);
         let state = self.first(port, block);
         Step::Ask(Action::Read(regs.swsm), state)
     }

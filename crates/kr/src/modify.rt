@@ -15,6 +15,7 @@ pub struct Change {
     pub set: u32,
 }
 
+// It ends with the value written.
 #[derive(Clone, Copy)]
 pub enum KrModify {
     Reading,
@@ -73,16 +74,14 @@ impl KrModify {
     ) -> Step<Job, KrModify, Result<u32, Error>>
         ensures { (b : List ℕ) → told_modify port change b result ≡ resume_modify port change self got }
     {
-        match got {
-            Err(e) => Step::Done(Err(e)),
-            Ok(v) => match self {
-                KrModify::Reading => {
-                    let value = v & change.keep | change.set;
-                    let address = krm(port.lan, change.port0);
-                    Step::Ask(Job::KrWrite(address, value), KrModify::Writing(value))
-                }
-                KrModify::Writing(value) => Step::Done(Ok(value)),
-            },
+        match (self, got) {
+            (_, Err(e)) => Step::Done(Err(e)),
+            (KrModify::Reading, Ok(v)) => {
+                let value = v & change.keep | change.set;
+                let address = krm(port.lan, change.port0);
+                Step::Ask(Job::KrWrite(address, value), KrModify::Writing(value))
+            }
+            (KrModify::Writing(value), Ok(_)) => Step::Done(Ok(value)),
         }
     }
 }

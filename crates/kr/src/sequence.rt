@@ -2,7 +2,7 @@
 // written.
 ghost use Rattle.std.specs.Prelude.{ℕ, List, ◌≡◌};
 ghost use Rattle.hardware.specs.Talk.{pick};
-ghost use Rattle.reference.specs.X552.{kr_autoneg_set, ixfi_set};
+ghost use Rattle.reference.specs.X552.{kr_autoneg_set, ixfi_set, restarted};
 ghost use Rattle.kr.specs.Modify.{told_modify};
 ghost use Rattle.kr.specs.Sequence.{first_of, change_of, sequence_of, sequence_then, sequence_at, sequence_after, resume_sequence, told_sequence};
 
@@ -103,23 +103,29 @@ impl Sequence {
         )
     }
 
+    // restart_an as the last part of another sequence, whose first value is the answer.
+    fn restart(port: Port, first: u32) -> Step<Job, Sequence, Result<u32, Error>>
+        ensures { (b : List ℕ) → told_sequence port b result ≡ restarted 10 port first }
+    {
+        Sequence::begin(port, KrPlace::Restart, Some(first))
+    }
+
     // What comes after it, with the first value written.
     fn then(port: Port, place: KrPlace, first: u32) -> Step<Job, Sequence, Result<u32, Error>>
         ensures { (b : List ℕ) → told_sequence port b result ≡ sequence_then port place first }
     {
-        let family = port.family;
         match place {
-            KrPlace::Advertise(_, _) => match family {
-                Family::X552 => Sequence::begin(port, KrPlace::Restart, Some(first)),
+            KrPlace::Advertise(_, _) => match port.family {
+                Family::X552 => Sequence::restart(port, first),
                 Family::X553 => Sequence::begin(port, KrPlace::Lane, Some(first)),
             },
-            KrPlace::Lane => Sequence::begin(port, KrPlace::Restart, Some(first)),
+            KrPlace::Lane => Sequence::restart(port, first),
             KrPlace::Force(_) => Sequence::begin(port, KrPlace::Train, Some(first)),
             KrPlace::Train => Sequence::begin(port, KrPlace::Ffe4, Some(first)),
             KrPlace::Ffe4 => Sequence::begin(port, KrPlace::Ffe5, Some(first)),
             KrPlace::Ffe5 => Sequence::begin(port, KrPlace::Coeff, Some(first)),
-            KrPlace::Coeff => Sequence::begin(port, KrPlace::Restart, Some(first)),
-            KrPlace::Restart => match family {
+            KrPlace::Coeff => Sequence::restart(port, first),
+            KrPlace::Restart => match port.family {
                 Family::X552 => Step::Done(Ok(first)),
                 Family::X553 => Sequence::begin(port, KrPlace::RestartLane, Some(first)),
             },
@@ -130,10 +136,7 @@ impl Sequence {
     fn first_of(first: Option<u32>, value: u32) -> u32
         ensures { first_of first value ≡ result }
     {
-        match first {
-            None => value,
-            Some(written) => written,
-        }
+        first.unwrap_or(value)
     }
 
     #[tactic(auto, using(hardware::proofs::Laws::then_assoc))]
@@ -166,6 +169,7 @@ impl Sequence {
         Sequence::begin(port, place, None)
     }
 
+    #[tactic(auto, using(hardware::proofs::Laws::then_assoc))]
     pub fn next(
         self,
         port: Port,
@@ -173,10 +177,7 @@ impl Sequence {
     ) -> Step<Job, Sequence, Result<u32, Error>>
         ensures { (b : List ℕ) → told_sequence port b result ≡ resume_sequence port self got }
     {
-        let place = self.place;
-        let first = self.first;
-        let modify = self.modify;
-        let step = modify.next(place.change(), port, got);
-        Sequence::after_modify(port, place, first, step)
+        let step = self.modify.next(self.place.change(), port, got);
+        Sequence::after_modify(port, self.place, self.first, step)
     }
 }

@@ -1,16 +1,10 @@
 -- The listing's lines as text
-use Rattle.std.specs.Prelude.{ℕ, ◌+◌, ◌≡◌, List, [], ◌∷◌, ◌++◌, eqb, length, Ok, Err}
-use Rattle.std.proofs.lemmas.List.Edits.{sets}
+use Rattle.std.specs.Prelude.{ℕ, List, [], ◌∷◌, ◌++◌, eqb, Ok, Err}
 use Rattle.hardware.specs.Talk.{pick, Res}
 use Rattle.hardware.specs.Numbers.{number, values}
 use Rattle.answers.specs.Fields.{fields}
 use Rattle.answers.specs.declared.Value.{Value}
 use Rattle.text.specs.Digits.{hex_digits, decimal_digits}
-
--- bytes were written to a buffer at a place, and nothing else was changed
-pub record Added (old : List ℕ) (at : ℕ) (bytes : List ℕ) (end : ℕ) (new : List ℕ) : Type 0 where
-  pub place : end ≡ at + length bytes
-  pub stored : new ≡ sets old at bytes
 
 -- `r `, `w ` and `d ` with what follows
 abbrev pub read_text : ℕ → List ℕ

@@ -23,7 +23,7 @@ fn lan_at(line: &[u8], at: usize, family: Family, device: u16) -> Option<Port>
     })
 }
 
-#[tactic(auto, using(crate::proofs::Laws::found_hex))]
+#[tactic(auto, using(crate::proofs::Laws::found_hex, crate::proofs::Laws::four_below))]
 fn device_at(line: &[u8], at: usize, family: Family) -> Option<Port>
     ensures { device_of family (words (drop at line.now)) ≡ result }
 {

@@ -1,5 +1,6 @@
 // The closures of mdio.rs's `read_reg` and `write_reg`: an address cycle, then the operation's.
 ghost use Rattle.std.specs.Prelude.{◌≡◌};
+ghost use Rattle.reference.specs.Mdio.{cycle};
 ghost use Rattle.mdio.specs.Cycle.{told_cycle};
 ghost use Rattle.mdio.specs.Mdio.{body_of, address_of, command_of, mdio_addressed, mdio_operated, mdio_cycled, resume_mdio, told_mdio};
 
@@ -65,16 +66,15 @@ impl Mdio {
     {
         match step {
             Step::Ask(a, s) => Step::Ask(a, Mdio::Cycling(MdioPlace::Operation, s)),
-            Step::Done(r) => match r {
-                Err(e) => Step::Done(Err(e)),
-                Ok(()) => match wanted {
-                    Wanted::Read(_) => Step::Ask(Action::Read(Mdio::MSRWD), Mdio::Data),
-                    Wanted::Write(_, _) => Step::Done(Ok(0)),
-                },
+            Step::Done(Err(e)) => Step::Done(Err(e)),
+            Step::Done(Ok(())) => match wanted {
+                Wanted::Read(_) => Step::Ask(Action::Read(Mdio::MSRWD), Mdio::Data),
+                Wanted::Write(_, _) => Step::Done(Ok(0)),
             },
         }
     }
 
+    #[tactic(auto, using(hardware::proofs::Laws::then_said))]
     fn addressed(
         wanted: Wanted,
         step: Step<Action, Cycle, Result<(), Error>>,
@@ -83,11 +83,17 @@ impl Mdio {
     {
         match step {
             Step::Ask(a, s) => Step::Ask(a, Mdio::Cycling(MdioPlace::Address, s)),
-            Step::Done(r) => match r {
-                Err(e) => Step::Done(Err(e)),
-                Ok(()) => Mdio::operated(wanted, Cycle::start(wanted.command())),
-            },
+            Step::Done(Err(e)) => Step::Done(Err(e)),
+            Step::Done(Ok(())) => Mdio::operated(wanted, Cycle::start(wanted.command())),
         }
+    }
+
+    // Both cycles.
+    #[tactic(auto, using(hardware::proofs::Laws::then_said))]
+    fn cycles(wanted: Wanted) -> Step<Action, Mdio, Result<u32, Error>>
+        ensures { told_mdio wanted result ≡ mdio_addressed wanted (cycle (address_of wanted)) }
+    {
+        Mdio::addressed(wanted, Cycle::start(wanted.address()))
     }
 
     fn cycled(
@@ -103,11 +109,12 @@ impl Mdio {
         }
     }
 
+    #[tactic(auto, using(crate::proofs::Laws::read_begun, crate::proofs::Laws::write_begun))]
     pub fn start(wanted: Wanted) -> Step<Action, Mdio, Result<u32, Error>>
         ensures { told_mdio wanted result ≡ body_of wanted }
     {
         match wanted {
-            Wanted::Read(a) => Mdio::addressed(wanted, Cycle::start(a)),
+            Wanted::Read(_) => Mdio::cycles(wanted),
             Wanted::Write(_, value) => Step::Ask(
                 Action::Write(Mdio::MSRWD, value as u32),
                 Mdio::Value,
@@ -119,6 +126,7 @@ impl Mdio {
 impl Machine for Mdio {
     type Context = Wanted;
 
+    // the register's value; 0 after a write
     type Answer = Result<u32, Error>;
 
     ghost resume = { resume_mdio };
@@ -127,13 +135,10 @@ impl Machine for Mdio {
         match self {
             Mdio::Value => match done(reply) {
                 Err(e) => Step::Done(Err(e)),
-                Ok(()) => Mdio::addressed(wanted, Cycle::start(wanted.address())),
+                Ok(()) => Mdio::cycles(wanted),
             },
             Mdio::Cycling(place, s) => Mdio::cycled(wanted, place, s.next((), reply)),
-            Mdio::Data => match raw(reply) {
-                Err(e) => Step::Done(Err(e)),
-                Ok(v) => Step::Done(Ok(v >> 16)),
-            },
+            Mdio::Data => Step::Done(raw(reply).map(|v| v >> 16)),
         }
     }
 }

@@ -5,7 +5,8 @@ use native.Mathlib.Nat.{lt_of_le_of_lt}
 use mathlib.Core.Path.{◌≡◌, refl, sym, ap, ◌∙◌, subst}
 use mathlib.Core.Bool.{Bool, true, false, true≢false}
 use mathlib.Core.Logic.{inl, inr}
-use mathlib.Core.Option.{Option, none, some, some-injective}
+use Rattle.std.specs.Prelude.{Option, None, Some}
+use Rattle.std.proofs.lemmas.Option.{none-some, same_Some}
 use lib.Dec.{lit<}
 use lib.Bits.{and_le_l}
 use Rattle.hardware.specs.Bits.{bit}
@@ -23,7 +24,7 @@ use Rattle.mixing.proofs.Sound.{Sound, EndsIf}
 use Rattle.mixing.proofs.Wp.{View, Wp, wp_mono}
 
 abbrev nothing : View
-nothing = record { smbi = false; mine = λ _. false; sync = 0; sel = none }
+nothing = record { smbi = false; mine = λ _. false; sync = 0; sel = None }
 
 free_ok : (bits address : ℕ) (regs : ℕ → ℕ) → ChipOk (free bits address regs)
 unfolding bit
@@ -35,15 +36,12 @@ free_ok bits address regs = record {
   fw_only = λ i e q. refl;
 }
 
-none_some : {a : ℕ} → ◌≡◌ {A = Option ℕ} none (some a) → ⊥
-none_some e = let z : true ≡ false = cc in true≢false z
-
 starts : (f : Family) (bits address : ℕ) (regs : ℕ → ℕ) → Inv f regs (starting (free bits address regs))
 unfolding table Right
 starts f bits address regs = record {
   chip = free_ok bits address regs;
   view = λ _. nothing;
-  sees = λ p. record { smbi = refl; mine = λ i. refl; sync = λ e. absurd (true≢false (sym e)); sel = λ a e. absurd (none_some e); lock = λ a e. absurd (none_some e) };
+  sees = λ p. record { smbi = refl; mine = λ i. refl; sync = λ e. absurd (true≢false (sym e)); sel = λ a e. absurd (none-some a e); lock = λ a e. absurd (none-some a e) };
   ports = λ p. record { clean = record { smbi = refl; free = refl }; none = λ _ i. refl };
   kr = λ a. refl;
   right = tt;
@@ -86,9 +84,9 @@ fits s b W h = wp_mono (λ W' o e. rests (is_ok o.0) W' e) (s.balanced W.mine W 
     rests true W' e = record { clean = e.clean; none = λ z i. e.mine i ∙ h.none z i }
     rests false W' e = record { clean = e.clean; none = λ z. absurd (true≢false (sym z)) }
 
-pub fit : (f : Family) (t : Talk Out) (b : Bool) (m : b ≡ true → Made f t) → (b ≡ true → Sound f ended_well t) → (g : Begun f) → begun_if f t b m ≡ some g
+pub fit : (f : Family) (t : Talk Out) (b : Bool) (m : b ≡ true → Made f t) → (b ≡ true → Sound f ended_well t) → (g : Begun f) → begun_if f t b m ≡ Some g
     → (w : Bool) (W : View) → Rest w W → Wp f (OpEnds w) W g.talk
-fit f t true m s g e w W r = subst (λ h. Wp f (OpEnds w) W h.talk) (some-injective _ _ e) (fits (s refl) w W r)
+fit f t true m s g e w W r = subst (λ h. Wp f (OpEnds w) W h.talk) (same_Some _ _ e) (fits (s refl) w W r)
 fit f t false m s g e w W r = let z : true ≡ false = cc in absurd (true≢false z)
 
 pub demand_3 : (pause : ℕ) (f : Family) → Demand3 pause f

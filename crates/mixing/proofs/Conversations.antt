@@ -1,5 +1,5 @@
 -- The code's conversations stand where the model's ports stand
-use Rattle.std.specs.Prelude.{Err, Ok}
+use Rattle.std.specs.Prelude.{Err, Ok, Option, None, Some}
 use Rattle.hardware.specs.Talk.{Talk, Res, end, ask, and_then, pick, Reply}
 use Prim.Native.Nat.{ℕ, ◌≤◌}
 use native.Mathlib.Omega.{arith}
@@ -7,7 +7,6 @@ use native.Mathlib.Nat.{le_trans}
 use mathlib.Core.Path.{◌≡◌, refl, sym, ap, ◌∙◌, subst}
 use mathlib.Core.Bool.{Bool, true, false, ◌&&◌}
 use mathlib.Core.List.{List, [], ◌∷◌}
-use mathlib.Core.Option.{Option, none, some}
 use lib.ListN.{length}
 use Rattle.hardware.specs.Refusal.{refusal}
 use Rattle.hardware.specs.declared.Action.{Action}
@@ -96,7 +95,7 @@ module _ (f : Family) (well : Bool) where
   unfolding settle
   settle_says (done a) t l e = (a, e)
   settle_says (other o m) t l e = e
-  settle_says (access x k p m) t l e = resume_says x none (access_talk f x) k m _ t l (λ r t' l' d. settle_says (m r) t' l' d) (e ∙ p)
+  settle_says (access x k p m) t l e = resume_says x None (access_talk f x) k m _ t l (λ r t' l' d. settle_says (m r) t' l' d) (e ∙ p)
 
 -- ---- a step of the code goes on from the chip's reply
 
@@ -171,14 +170,14 @@ module _ (f : Family) (p : Side) (s : Sys f) (well : Bool) where
   out_stays : (a : Action) (c : Reply → Talk Out) (o : Outside f a) (m : (r : Reply) → Made f (c r)) (g : Option (Begun f))
       → begins f p s g (out well a c o m) ≡ s
   unfolding begins
-  out_stays a c o m none = refl
-  out_stays a c o m (some g) = refl
+  out_stays a c o m None = refl
+  out_stays a c o m (Some g) = refl
 
   in_stays : (x : Access) (seen : Option ℕ) (a : Action) (c : Reply → Talk (Res (Given x))) (k : Res (Given x) → Talk Out) (m : (r : Res (Given x)) → Made f (k r))
       (g : Option (Begun f)) → begins f p s g (inside well x seen a c k m) ≡ s
   unfolding begins
-  in_stays x seen a c k m none = refl
-  in_stays x seen a c k m (some g) = refl
+  in_stays x seen a c k m None = refl
+  in_stays x seen a c k m (Some g) = refl
 
 module _ (f : Family) (made : Parts f) where
   begins_tied : (p : Side) (a : Asked) (s : Sys f) (r : Real) → Tied s r → (q : State f) → s.ports p ≡ q → Stands q (r.convs p).talk

@@ -1,11 +1,10 @@
 -- The model at work, computed: a kr_read alone, two ports that take turns, and a port that stops in the midst of an access
-use Rattle.std.specs.Prelude.{Err, Ok}
+use Rattle.std.specs.Prelude.{Err, Ok, Option, None, Some}
 use Rattle.hardware.specs.Talk.{Res, end, and_then, times}
 use Prim.Native.Nat.{ℕ, zero, suc}
 use mathlib.Core.Path.{◌≡◌, refl}
 use mathlib.Core.Bool.{Bool, true, false}
 use mathlib.Core.List.{List, [], ◌∷◌, ◌++◌}
-use mathlib.Core.Option.{Option, none, some}
 use lib.ListN.{replicate}
 use Rattle.hardware.specs.Bits.{bit}
 use Rattle.hardware.specs.Refusal.{refusal}
@@ -52,7 +51,7 @@ answer_of (Err e) = Err e
 
 abbrev read_of : Side → ℕ → Option (Begun X552)
 read_of p a =
-    some (record {
+    Some (record {
       talk = and_then (access_talk X552 (reads (caller p) a)) (λ r. end (answer_of r, []));
       made = access (reads (caller p) a) (λ r. end (answer_of r, [])) refl (λ r. done (answer_of r, []));
     })
@@ -66,7 +65,7 @@ module _ (regs : ℕ → ℕ) where
   after es = run X552 read_of es (starting (free 0x20 7 regs))
 
   -- case 13: 23 actions
-  alone : (after (begin lan0 5 ∷ turns 23 lan0)).log ≡ gave (reads (caller lan0) 5) (some (regs 5)) (Ok (regs 5)) ∷ touched (reads (caller lan0) 5) none (regs 5) ∷ []
+  alone : (after (begin lan0 5 ∷ turns 23 lan0)).log ≡ gave (reads (caller lan0) 5) (Some (regs 5)) (Ok (regs 5)) ∷ touched (reads (caller lan0) 5) None (regs 5) ∷ []
   unfolding after run step begins acts settle bit times kr_read acquire acquire_bits release release_rest release_bits iosf_idle mux bits software firmware flash
   alone = refl
 
@@ -74,26 +73,26 @@ module _ (regs : ℕ → ℕ) where
   unfolding after run step begins acts settle bit times kr_read acquire acquire_bits release release_rest release_bits iosf_idle mux bits software firmware flash
   ended = refl
 
-  not_yet : (after (begin lan0 5 ∷ turns 22 lan0)).log ≡ touched (reads (caller lan0) 5) none (regs 5) ∷ []
+  not_yet : (after (begin lan0 5 ∷ turns 22 lan0)).log ≡ touched (reads (caller lan0) 5) None (regs 5) ∷ []
   unfolding after run step begins acts settle bit times kr_read acquire acquire_bits release release_rest release_bits iosf_idle mux bits software firmware flash
   not_yet = refl
 
   -- lan 1 begins in the midst of lan 0's access, and waits for it
   both : (after ((begin lan0 5 ∷ turns 12 lan0) ++ ((begin lan1 6 ∷ turns 9 lan1) ++ (turns 11 lan0 ++ turns 23 lan1)))).log
-      ≡ gave (reads (caller lan1) 6) (some (regs 6)) (Ok (regs 6)) ∷ touched (reads (caller lan1) 6) none (regs 6)
-      ∷ gave (reads (caller lan0) 5) (some (regs 5)) (Ok (regs 5)) ∷ touched (reads (caller lan0) 5) none (regs 5) ∷ []
+      ≡ gave (reads (caller lan1) 6) (Some (regs 6)) (Ok (regs 6)) ∷ touched (reads (caller lan1) 6) None (regs 6)
+      ∷ gave (reads (caller lan0) 5) (Some (regs 5)) (Ok (regs 5)) ∷ touched (reads (caller lan0) 5) None (regs 5) ∷ []
   unfolding after run step begins acts settle bit times kr_read acquire acquire_bits release release_rest release_bits iosf_idle mux bits software firmware flash
   both = refl
 
   -- lan 1 begins while lan 0 has just seen its bits free: it finds the register semaphore taken, and then the bits
   race : (after ((begin lan0 5 ∷ turns 3 lan0) ++ ((begin lan1 6 ∷ turns 2 lan1) ++ (turns 5 lan0 ++ (turns 9 lan1 ++ (turns 15 lan0 ++ turns 23 lan1)))))).log
-      ≡ gave (reads (caller lan1) 6) (some (regs 6)) (Ok (regs 6)) ∷ touched (reads (caller lan1) 6) none (regs 6)
-      ∷ gave (reads (caller lan0) 5) (some (regs 5)) (Ok (regs 5)) ∷ touched (reads (caller lan0) 5) none (regs 5) ∷ []
+      ≡ gave (reads (caller lan1) 6) (Some (regs 6)) (Ok (regs 6)) ∷ touched (reads (caller lan1) 6) None (regs 6)
+      ∷ gave (reads (caller lan0) 5) (Some (regs 5)) (Ok (regs 5)) ∷ touched (reads (caller lan0) 5) None (regs 5) ∷ []
   unfolding after run step begins acts settle bit times kr_read acquire acquire_bits release release_rest release_bits iosf_idle mux bits software firmware flash
   race = refl
 
   -- lan 0 stops there for good: lan 1 tries 1000 times, and says who is in its way
-  stopped : (after ((begin lan0 5 ∷ turns 12 lan0) ++ (begin lan1 6 ∷ turns 9000 lan1))).log ≡ gave (reads (caller lan1) 6) none (Err (Semaphore 6)) ∷ []
+  stopped : (after ((begin lan0 5 ∷ turns 12 lan0) ++ (begin lan1 6 ∷ turns 9000 lan1))).log ≡ gave (reads (caller lan1) 6) None (Err (Semaphore 6)) ∷ []
   unfolding after run step begins acts settle bit times kr_read acquire acquire_bits release release_rest release_bits iosf_idle mux bits software firmware flash
   stopped = refl
 

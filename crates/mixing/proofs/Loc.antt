@@ -1,10 +1,9 @@
 -- An access by itself: it selects its address before its one touch of DATA, and a read gives what it got there
-use Rattle.std.specs.Prelude.{Err, Ok}
+use Rattle.std.specs.Prelude.{Err, Ok, Option, None, Some}
 use Rattle.hardware.specs.Talk.{Talk, Call, Res, end, ask, and_then, pick, or_stop, is_clear, fail, raw, Reply}
 use Prim.Native.Nat.{ℕ}
 use mathlib.Core.Path.{◌≡◌, refl, sym, subst}
 use mathlib.Core.Bool.{Bool, true, false}
-use mathlib.Core.Option.{Option, none, some}
 use Rattle.hardware.specs.Talk as talk
 use Rattle.hardware.specs.declared.Action.{Action}
 use Rattle.hardware.specs.declared.Action.TheVariants as action
@@ -39,15 +38,15 @@ use Rattle.mixing.proofs.Plain.{Plain, plain_acquire, plain_release}
 -- the address that this access selected, if it did; a store to SW_FW_SYNC may let go of the lock
 abbrev pub sel_read : Kind → Option ℕ → Option ℕ
 sel_read is_swsm s = s
-sel_read is_sync s = none
+sel_read is_sync s = None
 sel_read is_ctrl s = s
 sel_read is_data s = s
 sel_read is_other s = s
 
 abbrev pub sel_write : Kind → ℕ → Option ℕ → Option ℕ
 sel_write is_swsm w s = s
-sel_write is_sync w s = none
-sel_write is_ctrl w s = some w
+sel_write is_sync w s = None
+sel_write is_ctrl w s = Some w
 sel_write is_data w s = s
 sel_write is_other w s = s
 
@@ -57,12 +56,12 @@ sel_next f (action.Write r w) s = sel_write (kind f r) w s
 sel_next f (action.Wait n) s = s
 
 abbrev pub TouchRead : Access → Option ℕ → Option ℕ → Type 0
-TouchRead (reads who a) sel seen = (sel ≡ some a) × (seen ≡ none)
+TouchRead (reads who a) sel seen = (sel ≡ Some a) × (seen ≡ None)
 TouchRead (writes who a w) sel seen = ⊥
 
 abbrev pub TouchWrite : Access → Option ℕ → Option ℕ → ℕ → Type 0
 TouchWrite (reads who a) sel seen v = ⊥
-TouchWrite (writes who a w) sel seen v = (sel ≡ some a) × (seen ≡ none) × (w ≡ v)
+TouchWrite (writes who a w) sel seen v = (sel ≡ Some a) × (seen ≡ None) × (w ≡ v)
 
 abbrev pub OwnRead : Access → Option ℕ → Option ℕ → Kind → Type 0
 OwnRead x sel seen is_swsm = Unit {0}
@@ -95,11 +94,6 @@ module _ {f : Family} {x : Access} where
   loc_then (loc_end h) g = g _ _ _ h
   loc_then (loc_ask n h) g = loc_ask n (λ r. loc_then (h r) g)
 
-  loc_stop : {A B : Type 0} {Q : Option ℕ → Res B → Type 0} {k : A → Call B} {sel seen : Option ℕ}
-      → ((a : A) → Loc f x Q sel seen (k a)) → ((e : Error) → Q seen (Err e)) → (r : Res A) → Loc f x Q sel seen (or_stop k r)
-  loc_stop h he (Ok a) = h a
-  loc_stop h he (Err e) = loc_end (he e)
-
   loc_pick : {A : Type 0} {Q : Option ℕ → A → Type 0} {sel seen : Option ℕ} {t u : Talk A} (b : Bool)
       → Loc f x Q sel seen t → Loc f x Q sel seen u → Loc f x Q sel seen (pick b t u)
   loc_pick true p q = p
@@ -107,21 +101,21 @@ module _ {f : Family} {x : Access} where
 
 -- ---- the locks touch no DATA
 
-plain_read : (x : Access) (sel seen : Option ℕ) (k : Kind) → NotIosf k → OwnRead x sel seen k × ((v : ℕ) → if_data k v ≡ none)
+plain_read : (x : Access) (sel seen : Option ℕ) (k : Kind) → NotIosf k → OwnRead x sel seen k × ((v : ℕ) → if_data k v ≡ None)
 plain_read x sel seen is_swsm h = (tt, λ v. refl)
 plain_read x sel seen is_sync h = (tt, λ v. refl)
 plain_read x sel seen is_ctrl h = absurd h
 plain_read x sel seen is_data h = absurd h
 plain_read x sel seen is_other h = (tt, λ v. refl)
 
-plain_write : (x : Access) (sel seen : Option ℕ) (w : ℕ) (k : Kind) → NotIosf k → OwnWrite x sel seen w k × (if_data k w ≡ none)
+plain_write : (x : Access) (sel seen : Option ℕ) (w : ℕ) (k : Kind) → NotIosf k → OwnWrite x sel seen w k × (if_data k w ≡ None)
 plain_write x sel seen w is_swsm h = (tt, refl)
 plain_write x sel seen w is_sync h = (tt, refl)
 plain_write x sel seen w is_ctrl h = absurd h
 plain_write x sel seen w is_data h = absurd h
 plain_write x sel seen w is_other h = (tt, refl)
 
-plain_action : (f : Family) (x : Access) (sel seen : Option ℕ) (a : Action) → Outside f a → Own f x sel seen a × ((r : Reply) → touch f a r ≡ none)
+plain_action : (f : Family) (x : Access) (sel seen : Option ℕ) (a : Action) → Outside f a → Own f x sel seen a × ((r : Reply) → touch f a r ≡ None)
 plain_action f x sel seen (action.Read r) h = let p = plain_read x sel seen (kind f r) h in (p.0, λ a. p.1 (word a))
 plain_action f x sel seen (action.Write r w) h = let p = plain_write x sel seen w (kind f r) h in (p.0, λ a. p.1)
 plain_action f x sel seen (action.Wait n) h = (tt, λ a. refl)
@@ -139,15 +133,15 @@ module _ {A : Type 0} {x : Access} {Q : Option ℕ → A → Type 0} {sel seen :
   read_ctrl X552 h = loc_ask tt h
   read_ctrl X553 h = loc_ask tt h
 
-  write_ctrl : (f : Family) {w : ℕ} → ((r : Reply) → Loc f x Q (some w) seen (c r)) → Loc f x Q sel seen (ask (action.Write 0x11144 w) c)
+  write_ctrl : (f : Family) {w : ℕ} → ((r : Reply) → Loc f x Q (Some w) seen (c r)) → Loc f x Q sel seen (ask (action.Write 0x11144 w) c)
   write_ctrl X552 h = loc_ask tt h
   write_ctrl X553 h = loc_ask tt h
 
-  read_data : (f : Family) → TouchRead x sel seen → ((r : Reply) → Loc f x Q sel (some (word r)) (c r)) → Loc f x Q sel seen (ask (action.Read 0x11148) c)
+  read_data : (f : Family) → TouchRead x sel seen → ((r : Reply) → Loc f x Q sel (Some (word r)) (c r)) → Loc f x Q sel seen (ask (action.Read 0x11148) c)
   read_data X552 n h = loc_ask n h
   read_data X553 n h = loc_ask n h
 
-  write_data : (f : Family) {w : ℕ} → TouchWrite x sel seen w → ((r : Reply) → Loc f x Q sel (some w) (c r))
+  write_data : (f : Family) {w : ℕ} → TouchWrite x sel seen w → ((r : Reply) → Loc f x Q sel (Some w) (c r))
       → Loc f x Q sel seen (ask (action.Write 0x11148 w) c)
   write_data X552 n h = loc_ask n h
   write_data X553 n h = loc_ask n h
@@ -177,7 +171,7 @@ on_done h he (Err v) = loc_end (he _)
 -- ---- the accesses
 
 module _ (f : Family) (who : Caller) (a : ℕ) where
-  read_loc : (z : Option ℕ) → Loc f (reads who a) (RightGave (reads who a)) z none (kr_read_body who.pause a)
+  read_loc : (z : Option ℕ) → Loc f (reads who a) (RightGave (reads who a)) z None (kr_read_body who.pause a)
   read_loc z =
       idles who.pause _
       (λ _. write_ctrl f (on_done
@@ -185,11 +179,11 @@ module _ (f : Family) (who : Caller) (a : ℕ) where
       (λ e. tt)))
       (λ e. tt)
     where
-      give : (r : Reply) → Loc f (reads who a) (RightGave (reads who a)) (some a) (some (word r)) (end (raw r))
+      give : (r : Reply) → Loc f (reads who a) (RightGave (reads who a)) (Some a) (Some (word r)) (end (raw r))
       give (Ok v) = loc_end {a = Ok v} refl
       give (Err v) = loc_end {a = Err _} tt
 
-  write_loc : (w : ℕ) (z : Option ℕ) → Loc f (writes who a w) (RightGave (writes who a w)) z none (kr_write_body who.pause a w)
+  write_loc : (w : ℕ) (z : Option ℕ) → Loc f (writes who a w) (RightGave (writes who a w)) z None (kr_write_body who.pause a w)
   write_loc w z =
       idles who.pause _
       (λ _. write_ctrl f (on_done
@@ -210,19 +204,19 @@ right_error (reads who a) s e = tt
 right_error (writes who a w) s e = tt
 
 locked_loc : (f : Family) (x : Access) (who : Caller) (z : Option ℕ) (body : Call (Given x))
-    → ((z : Option ℕ) → Loc f x (RightGave x) z none body) → Loc f x (RightGave x) z none (locked plain (port_of f who) 6 body)
+    → ((z : Option ℕ) → Loc f x (RightGave x) z None body) → Loc f x (RightGave x) z None (locked plain (port_of f who) 6 body)
 locked_loc f x who z body h =
-    subst (Loc f x (RightGave x) z none) (bits_only who.pause (port_of f who) body)
+    subst (Loc f x (RightGave x) z None) (bits_only who.pause (port_of f who) body)
     (loc_then (loc_plain (plain_acquire (port_of f who) 6)) taken)
   where
-    taken : (y s : Option ℕ) (r : Res (Unit {0})) → s ≡ none → Loc f x (RightGave x) y s (held_taken plain (release_bits (port_of f who) 6) body r)
+    taken : (y s : Option ℕ) (r : Res (Unit {0})) → s ≡ None → Loc f x (RightGave x) y s (held_taken plain (release_bits (port_of f who) 6) body r)
     taken y s (Err e) n = loc_end (right_error x s e)
     taken y s (Ok _) n =
         subst (λ s. Loc f x (RightGave x) y s (held_taken plain (release_bits (port_of f who) 6) body (Ok tt))) (sym n)
         (loc_then (h y)
         (λ y s g q. loc_then (loc_plain (plain_release (port_of f who) 6)) (λ y s' r e. loc_end (subst (λ t. RightGave x t (both g r)) (sym e) (right_both x s g r q)))))
 
-pub access_own : (f : Family) (x : Access) (z : Option ℕ) → Loc f x (RightGave x) z none (access_talk f x)
+pub access_own : (f : Family) (x : Access) (z : Option ℕ) → Loc f x (RightGave x) z None (access_talk f x)
 unfolding kr_read kr_write
 access_own f (reads who a) z = locked_loc f (reads who a) who z (kr_read_body who.pause a) (read_loc f who a)
 access_own f (writes who a w) z = locked_loc f (writes who a w) who z (kr_write_body who.pause a w) (write_loc f who a w)

@@ -1,6 +1,6 @@
 -- The register semaphore of sync.rs keeps the rules
 use Rattle.std.specs.Prelude.{Err, Ok}
-use Rattle.hardware.specs.Talk.{Talk, Call, Res, ask, pick, or_stop, fail, flush, Reply}
+use Rattle.hardware.specs.Talk.{Talk, Call, Res, ask, pick, or_stop, fail, Reply}
 use Prim.Native.Nat.{ℕ, ◌-◌, ◌^◌, ◌<◌}
 use native.Mathlib.Omega.{arith}
 use mathlib.Core.Path.{◌≡◌, refl, sym, ap, ◌∙◌, subst}
@@ -145,9 +145,6 @@ module _ {f : Family} {Q : View → Res (Unit {0}) → Type 0} (W : View) where
 -- ---- `lock` and `unlock`
 
 module _ {f : Family} {Q : View → Res (Unit {0}) → Type 0} where
-  flushes : (W : View) → ((r : Res (Unit {0})) → Q W r) → Wp f Q W flush
-  flushes W h = quiet_wp (quiet_flush f) h
-
   smbi_goes : (W : View) → Q (with_smbi true W) (Ok tt) → ((e : Error) → Q W (Err e)) → Wp f Q W (smbi (regs f).swsm)
   smbi_goes W h he =
       by_turns (Wp f Q W) (smbi_turn (regs f).swsm) (fail (Semaphore 1))

@@ -4,7 +4,7 @@ use Prim.Native.Nat.{ℕ}
 use mathlib.Core.Path.{◌≡◌, refl, sym, ◌∙◌, subst}
 use mathlib.Core.Bool.{Bool, true, false}
 use mathlib.Core.List.{List, [], ◌∷◌}
-use mathlib.Core.Option.{Option, none, some}
+use Rattle.std.specs.Prelude.{Option, None, Some}
 use Rattle.hardware.specs.declared.Action.{Action}
 use Rattle.hardware.specs.declared.Family.{Family}
 use Rattle.reference.specs.Operations.{Out}
@@ -63,7 +63,7 @@ OpEnds b W o = Rest (ends_well (is_ok o.0) b) W
 pub record In (f : Family) (W : View) (b : Bool) (x : Access) (s : Option ℕ) (u : Talk (Res (Given x))) (k : Res (Given x) → Talk Out) : Type 0 where
   pub sel : Option ℕ
   pub loc : Loc f x (RightGave x) sel s u
-  pub same : (a : ℕ) → sel ≡ some a → W.sel ≡ some a
+  pub same : (a : ℕ) → sel ≡ Some a → W.sel ≡ Some a
   pub goes : Wp f (OpEnds b) W (and_then u k)
 
 module _ (f : Family) where
@@ -81,7 +81,7 @@ module _ (f : Family) where
     resume_ok : (b : Bool) (x : Access) (s : Option ℕ) (u : Talk (Res (Given x))) (k : Res (Given x) → Talk Out) (m : (r : Res (Given x)) → Made f (k r))
         (go : Res (Given x) → List Entry → Next f)
         → ((r : Res (Given x)) (W : View) (l : List Entry) → Wp f (OpEnds b) W (k r) → Right t₀ l → Settled W l (go r l))
-        → (W : View) (l : List Entry) (sel : Option ℕ) → ((a : ℕ) → sel ≡ some a → W.sel ≡ some a) → Loc f x (RightGave x) sel s u → Wp f (OpEnds b) W (and_then u k)
+        → (W : View) (l : List Entry) (sel : Option ℕ) → ((a : ℕ) → sel ≡ Some a → W.sel ≡ Some a) → Loc f x (RightGave x) sel s u → Wp f (OpEnds b) W (and_then u k)
         → Right t₀ l → Settled W l (resume f b x s u k m go l)
     unfolding Right table
     resume_ok b x s (end r) k m go h W l sel sm (loc_end g) wp rt =
@@ -95,8 +95,8 @@ module _ (f : Family) where
     settle_ok b (done o) W l (wp_end h) rt = record { port = h; right = rt; table = λ a. refl }
     settle_ok b (other o m) W l h rt = record { port = h; right = rt; table = λ a. refl }
     settle_ok b (access x k e m) W l h rt =
-        resume_ok b x none (access_talk f x) k m (λ r l'. settle f b (m r) l') (λ r W' l' p q. settle_ok b (m r) W' l' p q) W l none
-        (λ a z. none_is a z) (access_own f x none) (subst (Wp f (OpEnds b) W) e h) rt
+        resume_ok b x None (access_talk f x) k m (λ r l'. settle f b (m r) l') (λ r W' l' p q. settle_ok b (m r) W' l' p q) W l None
+        (λ a z. none_is a z) (access_own f x None) (subst (Wp f (OpEnds b) W) e h) rt
 
 pub change₁ : {P : Type 0} (F : Side → P → Type 0) (p : Side) (d : P) (ds : Side → P) → F p d → ((q : Side) → Other p q → F q (ds q)) → (q : Side)
     → F q (change p d ds q)
@@ -146,7 +146,7 @@ module _ (f : Family) (t₀ : ℕ → ℕ) where
 
   in_ok : (p : Side) (w : World) (s : Sys f) → Inv s → (W : View) → Sees p s.chip W
       → (b : Bool) (x : Access) (seen sel : Option ℕ) (a : Action) (c : Reply → Talk (Res (Given x)))
-      (k : Res (Given x) → Talk Out) (m : (r : Res (Given x)) → Made f (k r)) → ((a : ℕ) → sel ≡ some a → W.sel ≡ some a)
+      (k : Res (Given x) → Talk Out) (m : (r : Res (Given x)) → Made f (k r)) → ((a : ℕ) → sel ≡ Some a → W.sel ≡ Some a)
       → Loc f x (RightGave x) sel seen (ask a c) → Wp f (OpEnds b) W (ask a (λ r. and_then (c r) k)) → Inv (acts f p w s (inside b x seen a c k m))
   unfolding acts
   in_ok p w s i W se b x seen sel a c k m sm (loc_ask o g) (wp_ask n h) =
@@ -164,17 +164,17 @@ module _ (f : Family) (t₀ : ℕ → ℕ) where
 
   -- what is asked of the operations
   abbrev pub Fit : {Op : Type 0} → (Side → Op → Option (Begun f)) → Type 0
-  Fit ops = (p : Side) (o : _) (g : Begun f) → ops p o ≡ some g → (b : Bool) (W : View) → Rest b W → Wp f (OpEnds b) W g.talk
+  Fit ops = (p : Side) (o : _) (g : Begun f) → ops p o ≡ Some g → (b : Bool) (W : View) → Rest b W → Wp f (OpEnds b) W g.talk
 
   begins_ok : (p : Side) (s : Sys f) → Inv s → (W : View) → Sees p s.chip W → (g : Option (Begun f))
-      → ((h : Begun f) → g ≡ some h → (b : Bool) (W : View) → Rest b W → Wp f (OpEnds b) W h.talk)
+      → ((h : Begun f) → g ≡ Some h → (b : Bool) (W : View) → Rest b W → Wp f (OpEnds b) W h.talk)
       → (d : State f) → PortOk f W d → Inv (begins f p s g d)
   unfolding begins
-  begins_ok p s i W se none fit d h = i
-  begins_ok p s i W se (some g) fit (idle b) h =
+  begins_ok p s i W se None fit d h = i
+  begins_ok p s i W se (Some g) fit (idle b) h =
       moved_ok p s s.chip s.log _ W i i.chip se (λ q W' o t. t) i.kr (settle_ok f t₀ b g.made W s.log (fit g refl b W h) i.right)
-  begins_ok p s i W se (some g) fit (out b a c o m) h = i
-  begins_ok p s i W se (some g) fit (inside b x seen a c k m) h = i
+  begins_ok p s i W se (Some g) fit (out b a c o m) h = i
+  begins_ok p s i W se (Some g) fit (inside b x seen a c k m) h = i
 
   step_ok : {Op : Type 0} (ops : Side → Op → Option (Begun f)) → Fit ops → (e : Event Op) (s : Sys f) → Inv s → Inv (step f ops e s)
   unfolding step

@@ -1,12 +1,11 @@
 -- One action on the shared chip: what its port learns, and that what the other port knows still holds
-use Rattle.std.specs.Prelude.{Ok}
+use Rattle.std.specs.Prelude.{Ok, Option, Some}
 use Rattle.hardware.specs.Talk.{pick, Reply}
 use Prim.Native.Nat.{ℕ, ◌^◌}
-use native.Mathlib.Omega.{arith}
 use mathlib.Core.Path.{◌≡◌, refl, sym, ap, ◌∙◌, subst}
-use mathlib.Core.Bool.{Bool, true, false, not, ◌&&◌, ◌||◌, true≢false, or-true}
+use mathlib.Core.Bool.{Bool, true, false, not, ◌&&◌, ◌||◌, true≢false}
 use mathlib.Core.Logic.{◌⊎◌, inl, inr}
-use mathlib.Core.Option.{Option, none, some}
+use Rattle.std.proofs.lemmas.Option.{none-some}
 use lib.Dec.{lit<}
 use lib.Bits.{bit_or, or_lt}
 use Rattle.hardware.specs.Bits.{bit}
@@ -127,8 +126,8 @@ pub record Sees (p : Side) (c : Chip) (W : View) : Type 0 where
   pub smbi : is_port p (c.swsm.owner 0) ≡ W.smbi
   pub mine : (i : ℕ) → is_port p (c.sync.owner i) ≡ W.mine i
   pub sync : W.mine 31 ≡ true → W.sync ≡ c.sync.value
-  pub sel : (a : ℕ) → W.sel ≡ some a → c.selected ≡ a
-  pub lock : (a : ℕ) → W.sel ≡ some a → W.mine 1 ≡ true
+  pub sel : (a : ℕ) → W.sel ≡ Some a → c.selected ≡ a
+  pub lock : (a : ℕ) → W.sel ≡ Some a → W.mine 1 ≡ true
 
 -- what an action does to what is known
 pub record Shared (p : Side) (d : Did) (W' : View) (M : Reply → Type 0) (c : Chip) : Type 0 where
@@ -136,12 +135,6 @@ pub record Shared (p : Side) (d : Did) (W' : View) (M : Reply → Type 0) (c : C
   pub chip : ChipOk d.chip
   pub sees : Sees p d.chip W'
   pub others : (q : Side) (W : View) → Other p q → Sees q c W → Sees q d.chip W
-
-none_some : {A : Type 0} {a : A} → ◌≡◌ {A = Option A} none (some a) → ⊥
-none_some e = let z : ◌≡◌ {A = ℕ} 0 1 = cc in let y : ⊥ = omega arith in y
-
-bit_set : (v k : ℕ) → bit k (2 ^ k) ≡ true → bit k (bit_or v (2 ^ k)) ≡ true
-bit_set v k e = bit-bit_or k v (2 ^ k) ∙ ap (λ t. bit k v || t) e ∙ or-true (bit k v)
 
 pub grows : (v k i : ℕ) → bit i v ≡ true → bit i (bit_or v (2 ^ k)) ≡ true
 grows v k i e = bit-bit_or i v (2 ^ k) ∙ ap (λ t. t || bit i (2 ^ k)) e
@@ -240,8 +233,8 @@ sync_store p c W v r m k s g drops raises noword = record {
     smbi = s.smbi;
     mine = λ i. own_after p (bit i c.sync.value) (bit i v) (c.sync.owner i) ∙ ap (λ t. bit i v && (not (bit i c.sync.value) || t)) (s.mine i);
     sync = λ _. refl;
-    sel = λ a e. absurd (none_some e);
-    lock = λ a e. absurd (none_some e);
+    sel = λ a e. absurd (none-some a e);
+    lock = λ a e. absurd (none-some a e);
   };
   others = λ q W' n t. record {
     smbi = t.smbi;
@@ -290,7 +283,7 @@ sync_write p w c W v k s m =
 
 -- ---- the KR access registers
 
-some_inj : (a b : ℕ) → ◌≡◌ {A = Option ℕ} (some a) (some b) → a ≡ b
+some_inj : (a b : ℕ) → ◌≡◌ {A = Option ℕ} (Some a) (Some b) → a ≡ b
 some_inj a b e = cc
 
 ctrl_write : (p : Side) (w : World) (c : Chip) (W : View) (v : ℕ) → ChipOk c → Sees p c W → W.mine 1 ≡ true

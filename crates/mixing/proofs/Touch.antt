@@ -2,9 +2,9 @@
 use Rattle.hardware.specs.Talk.{pick, Reply}
 use Prim.Native.Nat.{ℕ}
 use mathlib.Core.Path.{◌≡◌, refl, sym, ap, ap₂, ◌∙◌}
-use mathlib.Core.Bool.{true, false, true≢false}
 use mathlib.Core.List.{List}
-use mathlib.Core.Option.{Option, none, some}
+use Rattle.std.specs.Prelude.{Option, None, Some}
+use Rattle.std.proofs.lemmas.Option.{none-some}
 use lib.Dec.{eqb}
 use Rattle.hardware.specs.declared.Action.{Action}
 use Rattle.hardware.specs.declared.Action.TheVariants as action
@@ -16,8 +16,8 @@ use Rattle.mixing.proofs.Loc.{sel_read, sel_write, sel_next, TouchRead, TouchWri
 use Rattle.mixing.proofs.Share.{Sees}
 use Rattle.mixing.proofs.Wp.{View, next, next_read, next_write}
 
-pub none_is : {A : Type 0} (a : ℕ) → ◌≡◌ {A = Option ℕ} none (some a) → A
-none_is a e = let z : true ≡ false = cc in absurd (true≢false z)
+pub none_is : {A : Type 0} (a : ℕ) → ◌≡◌ {A = Option ℕ} None (Some a) → A
+none_is a e = absurd (none-some a e)
 
 put_eq : (a a' v v' : ℕ) (s t : ℕ → ℕ) → a ≡ a' → v ≡ v' → ((b : ℕ) → s b ≡ t b) → (b : ℕ) → put a v s b ≡ put a' v' t b
 put_eq a a' v v' s t p q h b = ap₂ (λ x y. pick (eqb x b) y (s b)) p q ∙ ap (λ z. pick (eqb a' b) v' z) (h b)
@@ -27,17 +27,17 @@ module _ (t₀ : ℕ → ℕ) where
     pub right : Right t₀ (log_then x t s l)
     pub kr : (a : ℕ) → c.kr a ≡ table t₀ (log_then x t s l) a
 
-  module _ (p : Side) (w : World) (c : Chip) (W : View) (s sel : Option ℕ) (l : List Entry) (sm : (a : ℕ) → sel ≡ some a → W.sel ≡ some a) (se : Sees p c W)
+  module _ (p : Side) (w : World) (c : Chip) (W : View) (s sel : Option ℕ) (l : List Entry) (sm : (a : ℕ) → sel ≡ Some a → W.sel ≡ Some a) (se : Sees p c W)
       (kr : (a : ℕ) → c.kr a ≡ table t₀ l a) (rt : Right t₀ l) where
-    quiet : (x : Access) → Touches x s l none c
+    quiet : (x : Access) → Touches x s l None c
     quiet x = record { right = rt; kr = kr }
 
-    touch_read : (x : Access) → TouchRead x sel s → Touches x s l (some (c.kr c.selected)) c
+    touch_read : (x : Access) → TouchRead x sel s → Touches x s l (Some (c.kr c.selected)) c
     unfolding Right table
     touch_read (reads who a) n = record { right = (n.1, ap c.kr (se.sel a (sm a n.0)) ∙ kr a, rt); kr = kr }
     touch_read (writes who a v) n = absurd n
 
-    touch_write : (x : Access) (v : ℕ) → TouchWrite x sel s v → Touches x s l (some v) (do_write p w c v is_data).chip
+    touch_write : (x : Access) (v : ℕ) → TouchWrite x sel s v → Touches x s l (Some v) (do_write p w c v is_data).chip
     unfolding Right table
     touch_write (reads who a) v n = absurd n
     touch_write (writes who a u) v n = record {
@@ -65,22 +65,22 @@ module _ (t₀ : ℕ → ℕ) where
     touch_ok f x (action.Wait i) n = quiet x
 
 -- what an access has selected, the port knows
-sel_read_lem : (W : View) (sel : Option ℕ) (kd : Kind) (v a : ℕ) → (sel ≡ some a → W.sel ≡ some a) → sel_read kd sel ≡ some a → (next_read W kd v).sel ≡ some a
+sel_read_lem : (W : View) (sel : Option ℕ) (kd : Kind) (v a : ℕ) → (sel ≡ Some a → W.sel ≡ Some a) → sel_read kd sel ≡ Some a → (next_read W kd v).sel ≡ Some a
 sel_read_lem W sel is_swsm v a h e = h e
 sel_read_lem W sel is_sync v a h e = none_is a e
 sel_read_lem W sel is_ctrl v a h e = h e
 sel_read_lem W sel is_data v a h e = h e
 sel_read_lem W sel is_other v a h e = h e
 
-sel_write_lem : (W : View) (sel : Option ℕ) (kd : Kind) (w a : ℕ) → (sel ≡ some a → W.sel ≡ some a) → sel_write kd w sel ≡ some a → (next_write W w kd).sel ≡ some a
+sel_write_lem : (W : View) (sel : Option ℕ) (kd : Kind) (w a : ℕ) → (sel ≡ Some a → W.sel ≡ Some a) → sel_write kd w sel ≡ Some a → (next_write W w kd).sel ≡ Some a
 sel_write_lem W sel is_swsm w a h e = h e
 sel_write_lem W sel is_sync w a h e = none_is a e
 sel_write_lem W sel is_ctrl w a h e = e
 sel_write_lem W sel is_data w a h e = h e
 sel_write_lem W sel is_other w a h e = h e
 
-pub sel_next_lem : (f : Family) (W : View) (sel : Option ℕ) (x : Action) (r : Reply) (a : ℕ) → (sel ≡ some a → W.sel ≡ some a)
-    → sel_next f x sel ≡ some a → (next f W x r).sel ≡ some a
+pub sel_next_lem : (f : Family) (W : View) (sel : Option ℕ) (x : Action) (r : Reply) (a : ℕ) → (sel ≡ Some a → W.sel ≡ Some a)
+    → sel_next f x sel ≡ Some a → (next f W x r).sel ≡ Some a
 sel_next_lem f W sel (action.Read g) r a h e = sel_read_lem W sel (kind f g) (word r) a h e
 sel_next_lem f W sel (action.Write g w) r a h e = sel_write_lem W sel (kind f g) w a h e
 sel_next_lem f W sel (action.Wait n) r a h e = h e

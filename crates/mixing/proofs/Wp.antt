@@ -1,11 +1,10 @@
 -- What a port may count on while the other port and the firmware go on, and what it owes them
-use Rattle.std.specs.Prelude.{Err, Ok}
+use Rattle.std.specs.Prelude.{Err, Ok, Option, None, Some}
 use Rattle.hardware.specs.Talk.{Talk, Res, end, ask, and_then, ◌>>=◌, attempt, pick, Reply}
 use Prim.Native.Nat.{ℕ, ◌^◌, ◌<◌}
 use mathlib.Core.Path.{◌≡◌, refl, sym, subst}
 use mathlib.Core.Bool.{Bool, true, false, not, ◌&&◌, ◌||◌}
 use mathlib.Core.Logic.{◌⊎◌}
-use mathlib.Core.Option.{Option, none, some}
 use lib.Dec.{eqb}
 use lib.Bits.{bit_or}
 use Rattle.hardware.specs.Bits.{bit}
@@ -28,11 +27,11 @@ abbrev pub with_smbi : Bool → View → View
 with_smbi b W = record { smbi = b; mine = W.mine; sync = W.sync; sel = W.sel }
 
 abbrev pub with_sel : ℕ → View → View
-with_sel a W = record { smbi = W.smbi; mine = W.mine; sync = W.sync; sel = some a }
+with_sel a W = record { smbi = W.smbi; mine = W.mine; sync = W.sync; sel = Some a }
 
 -- it stores w over v
 abbrev pub stores : ℕ → ℕ → View → View
-stores v w W = record { smbi = W.smbi; mine = λ i. bit i w && (not (bit i v) || W.mine i); sync = w; sel = none }
+stores v w W = record { smbi = W.smbi; mine = λ i. bit i w && (not (bit i v) || W.mine i); sync = w; sel = None }
 
 -- a word of 32 bits without bit 9, so never all ones
 pub record Good (v : ℕ) : Type 0 where

@@ -1,7 +1,6 @@
 -- The code's conversations on the model's chip: begun as `begin` begins them, and moved as `step` moves them
 use Rattle.hardware.specs.Talk.{Talk, end, ask, and_then, pick, Reply}
-use Rattle.std.specs.Prelude.{ℕ, ◌≡◌, Bool, true, ◌&&◌, List, [], ◌∷◌, length, Err, Ok}
-use Rattle.std.proofs.Math.Option.{Option}
+use Rattle.std.specs.Prelude.{ℕ, ◌≡◌, Bool, true, ◌&&◌, List, [], ◌∷◌, length, Err, Ok, Option}
 use Rattle.hardware.specs.Refusal.{refusal}
 use Rattle.hardware.specs.declared.Family.{Family}
 use Rattle.hardware.specs.declared.Port.{Port}

@@ -1,7 +1,6 @@
 -- Demand 3: the KR table, and the statement
 use Rattle.hardware.specs.Talk.{Talk, Res}
-use Rattle.std.specs.Prelude.{ℕ, ◌≡◌, refl, Bool, true, false, ◌&&◌, List, [], ◌∷◌, Err, Ok}
-use Rattle.std.proofs.Math.Option.{Option, none, some}
+use Rattle.std.specs.Prelude.{ℕ, ◌≡◌, refl, Bool, true, false, ◌&&◌, List, [], ◌∷◌, Err, Ok, Option, None, Some}
 use Rattle.hardware.specs.Refusal.{refusal}
 use Rattle.hardware.specs.declared.Family.{Family}
 use Rattle.hardware.specs.declared.Port.{Port}
@@ -29,14 +28,14 @@ RightTouch (writes who a w) t v = v ≡ w
 
 -- a read access that succeeded gave the word that it got from DATA
 abbrev pub RightGave : (x : Access) → Option ℕ → Res (Given x) → Type 0
-RightGave (reads who a) s (Ok v) = s ≡ some v
+RightGave (reads who a) s (Ok v) = s ≡ Some v
 RightGave (reads who a) s (Err e) = Unit {0}
 RightGave (writes who a w) s r = Unit {0}
 
 -- at each entry, with the table as it was then; an access touches DATA once
 unfoldable pub Right : (ℕ → ℕ) → List Entry → Type 0
 Right t [] = Unit {0}
-Right t (touched x s v ∷ l) = (s ≡ none) × RightTouch x (table t l) v × Right t l
+Right t (touched x s v ∷ l) = (s ≡ None) × RightTouch x (table t l) v × Right t l
 Right t (gave x s r ∷ l) = RightGave x s r × Right t l
 
 -- what demand 3 says of the end of a list of events, from a chip with the KR registers `regs`
@@ -74,8 +73,8 @@ abbrev pub takes : Port → Op → Bool
 takes port op = mixable op && is_ok (refusal port (addresses op).0 (addresses op).1 (block_of op))
 
 abbrev pub begun_if : (f : Family) (t : Talk Out) (b : Bool) → (b ≡ true → Made f t) → Option (Begun f)
-begun_if f t true m = some (record { talk = t; made = m refl })
-begun_if f t false m = none
+begun_if f t true m = Some (record { talk = t; made = m refl })
+begun_if f t false m = None
 
 -- every operation taken apart, `pause`: the sideband's wait
 abbrev pub Parts : ℕ → Family → Type 0

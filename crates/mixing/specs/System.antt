@@ -1,7 +1,6 @@
 -- Two ports on one chip, and every list of events
 use Rattle.hardware.specs.Talk.{Talk, end, ask, and_then, Res, Reply}
-use Rattle.std.specs.Prelude.{ℕ, ◌≡◌, Bool, true, false, List, [], ◌∷◌, Err, Ok}
-use Rattle.std.proofs.Math.Option.{Option, none, some}
+use Rattle.std.specs.Prelude.{ℕ, ◌≡◌, Bool, true, false, List, [], ◌∷◌, Err, Ok, Option, None, Some}
 use Rattle.hardware.specs.declared.Action.{Action}
 use Rattle.hardware.specs.declared.Action.TheVariants as action
 use Rattle.hardware.specs.declared.Family.{Family}
@@ -103,7 +102,7 @@ resume f well x seen (ask a c) k m go l = record { state = inside well x seen a 
 unfoldable pub settle : (f : Family) (well : Bool) {t : Talk Out} → Made f t → List Entry → Next f
 settle f well (done a) l = record { state = idle (ends_well (is_ok a.0) well); log = l }
 settle f well (other {a} {c} o m) l = record { state = out well a c o m; log = l }
-settle f well (access x k e m) l = resume f well x none (access_talk f x) k m (λ r l'. settle f well (m r) l') l
+settle f well (access x k e m) l = resume f well x None (access_talk f x) k m (λ r l'. settle f well (m r) l') l
 
 abbrev pub word : Reply → ℕ
 word (Ok v) = v
@@ -111,24 +110,24 @@ word (Err v) = v.0
 
 -- the word that an action read from DATA or wrote to it
 abbrev pub if_data : Kind → ℕ → Option ℕ
-if_data is_swsm v = none
-if_data is_sync v = none
-if_data is_ctrl v = none
-if_data is_data v = some v
-if_data is_other v = none
+if_data is_swsm v = None
+if_data is_sync v = None
+if_data is_ctrl v = None
+if_data is_data v = Some v
+if_data is_other v = None
 
 abbrev pub touch : Family → Action → Reply → Option ℕ
 touch f (action.Read r) a = if_data (kind f r) (word a)
 touch f (action.Write r v) a = if_data (kind f r) v
-touch f (action.Wait n) a = none
+touch f (action.Wait n) a = None
 
 abbrev pub seen_then : Option ℕ → Option ℕ → Option ℕ
-seen_then none s = s
-seen_then (some v) s = some v
+seen_then None s = s
+seen_then (Some v) s = Some v
 
 abbrev pub log_then : Access → Option ℕ → Option ℕ → List Entry → List Entry
-log_then x none s l = l
-log_then x (some v) s l = touched x s v ∷ l
+log_then x None s l = l
+log_then x (Some v) s l = touched x s v ∷ l
 
 pub record Sys (f : Family) : Type 0 where
   pub chip : Chip
@@ -168,10 +167,10 @@ acts f p w s (inside well x seen a c k m) =
 
 -- nothing where it is refused, or one of the port's own is running
 unfoldable pub begins : (f : Family) → Side → Sys f → Option (Begun f) → State f → Sys f
-begins f p s none q = s
-begins f p s (some g) (idle well) = moved p s.chip (settle f well g.made s.log) s
-begins f p s (some g) (out well a c o m) = s
-begins f p s (some g) (inside well x seen a c k m) = s
+begins f p s None q = s
+begins f p s (Some g) (idle well) = moved p s.chip (settle f well g.made s.log) s
+begins f p s (Some g) (out well a c o m) = s
+begins f p s (Some g) (inside well x seen a c k m) = s
 
 -- `ops`: what a port begins with an operation and its arguments, none where it is refused
 unfoldable pub step : {Op : Type 0} (f : Family) (ops : Side → Op → Option (Begun f)) → Event Op → Sys f → Sys f

@@ -1,8 +1,7 @@
 -- Two conversations that take turns on the model's chip, with the touches of DATA on record. No theorem of demand 3 uses this:
 -- it is where must-fail/ tries faulty accesses in the place of the reference's
 use Rattle.hardware.specs.Talk.{Talk, end, ask, Res}
-use Rattle.std.specs.Prelude.{ℕ, zero, suc, List, [], ◌∷◌}
-use Rattle.std.proofs.Math.Option.{Option, none, some}
+use Rattle.std.specs.Prelude.{ℕ, zero, suc, List, [], ◌∷◌, Option, None, Some}
 use Rattle.hardware.specs.declared.Family.{Family}
 use Rattle.hardware.specs.declared.Family.TheVariants.{X552}
 use Rattle.reference.specs.X552.{kr_read}
@@ -25,8 +24,8 @@ pub record Both : Type 0 where
   pub touches : List Touch
 
 abbrev pub noted : Side → Option ℕ → List Touch → List Touch
-noted p none l = l
-noted p (some v) l = record { by = p; word = v } ∷ l
+noted p None l = l
+noted p (Some v) l = record { by = p; word = v } ∷ l
 
 -- one action of port p, never busy
 abbrev pub turn : Family → Side → Both → Talk (Res ℕ) → Both

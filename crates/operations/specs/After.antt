@@ -51,7 +51,7 @@ resume_after port (after.Token take) got ws = answer value.Flag (token_got take 
 resume_after port (after.Activity asked s) got ws = answer value.Activity (resume_activity port asked s got ws)
 resume_after port (after.Mdio s) got ws = resume_mdio port s got
 resume_after port (after.Kr s) got ws = resume_kr port s got
-resume_after port (after.Bringup veto s) got ws = keep (resume_bringup port veto s got ws) []
+resume_after port (after.Bringup veto s) got ws = keep (resume_bringup (record { port = port; veto = veto }) s got ws) []
 resume_after port (after.Poll w s) got ws = answer poll_value (resume_poll port w s got)
 
 -- an operation's end, with the words of the block that belong to it

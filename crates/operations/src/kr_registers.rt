@@ -49,6 +49,7 @@ impl Kr {
         }
     }
 
+    #[tactic(auto, using(hardware::proofs::Laws::then_assoc))]
     pub fn next(self, port: Port, got: Result<u32, Error>) -> Step<Job, After, Ended>
         ensures { (b : List ℕ) → told_after port b result ≡ resume_kr port self got }
     {

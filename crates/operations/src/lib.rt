@@ -22,7 +22,7 @@ use access::access::Job;
 use activity::{Activity, Asked};
 use answers::{Value, Words};
 use bringup::Bringup;
-use hardware::{Error, Port, Step};
+use hardware::{Error, Managed, Port, Step};
 use hostif::token::Token;
 use phy::abilities::speeds_of;
 use watch::poll::{Poll, Polled};
@@ -88,8 +88,7 @@ impl After {
     fn link(port: Port, got: Result<u32, Error>) -> Step<Job, After, Ended>
         ensures { (b : List ℕ) → told_after port b result ≡ after_link port got }
     {
-        let family = port.family;
-        After::plain(got.map(|v| Value::Link(Link::of(family, v))))
+        After::plain(got.map(|v| Value::Link(Link::of(port.family, v))))
     }
 
     fn abilities(port: Port, got: Result<u32, Error>) -> Step<Job, After, Ended>
@@ -132,14 +131,13 @@ impl After {
 
     #[tactic(auto, using(hardware::proofs::Laws::then_assoc))]
     pub fn bringup(
-        port: Port,
-        veto: bool,
+        managed: Managed,
         step: Step<Job, Bringup, Result<Value, Error>>,
     ) -> Step<Job, After, Ended>
-        ensures { (b : List ℕ) → told_after port b result ≡ keep (told_bringup port veto b step) [] }
+        ensures { (b : List ℕ) → told_after managed.port b result ≡ keep (told_bringup managed b step) [] }
     {
         match step {
-            Step::Ask(job, s) => Step::Ask(job, After::Bringup(veto, s)),
+            Step::Ask(job, s) => Step::Ask(job, After::Bringup(managed.veto, s)),
             Step::Done(answer) => After::plain(answer),
         }
     }
@@ -154,20 +152,18 @@ impl After {
     {
         match step {
             Step::Ask(job, s) => Step::Ask(job, After::Poll(watch, s)),
-            Step::Done(r) => match r {
-                Err(e) => After::plain(Err(e)),
-                Ok(polled) => {
-                    let left = polled.left;
-                    After::plain(Ok(Value::Poll {
-                        copper: polled.copper,
-                        forced: left.forced,
-                        reforced: left.reforced,
-                    }))
-                }
-            },
+            Step::Done(Err(e)) => After::plain(Err(e)),
+            Step::Done(Ok(polled)) => {
+                After::plain(Ok(Value::Poll {
+                    copper: polled.copper,
+                    forced: polled.left.forced,
+                    reforced: polled.left.reforced,
+                }))
+            }
         }
     }
 
+    #[tactic(auto, using(hardware::proofs::Laws::then_assoc))]
     pub fn next(
         self,
         port: Port,
@@ -192,8 +188,9 @@ impl After {
             After::Mdio(s) => s.next(port, got),
             After::Kr(s) => s.next(port, got),
             After::Bringup(veto, s) => {
-                let step = s.next(veto, port, block, got, words);
-                After::bringup(port, veto, step)
+                let managed = Managed { port, veto };
+                let step = s.next(managed, block, got, words);
+                After::bringup(managed, step)
             }
             After::Poll(watch, s) => After::poll(port, watch, s.next(watch, port, got)),
         }

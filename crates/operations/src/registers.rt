@@ -152,6 +152,7 @@ impl Mdio {
     }
 
     // Where the clock is not set, it ends at once.
+    #[tactic(auto, using(hardware::proofs::Laws::then_assoc, crate::proofs::Laws::reset_begun))]
     pub fn after_reset(port: Port) -> Step<Job, After, Ended>
         ensures { (b : List ℕ) → told_after port b result ≡ answer nothing (after_reset port port.family) }
     {
@@ -161,6 +162,7 @@ impl Mdio {
         }
     }
 
+    #[tactic(auto, using(hardware::proofs::Laws::then_assoc))]
     pub fn next(self, port: Port, got: Result<u32, Error>) -> Step<Job, After, Ended>
         ensures { (b : List ℕ) → told_after port b result ≡ resume_mdio port self got }
     {

@@ -27,6 +27,7 @@ pub enum AdvertisePlace {
     Restart,
 }
 
+// It ends with whether the autonegotiation was restarted.
 #[derive(Clone, Copy)]
 pub struct Advertise {
     pub place: AdvertisePlace,
@@ -77,15 +78,13 @@ impl Advertised {
     fn register(self, place: AdvertisePlace) -> Register
         ensures { register_of self place ≡ result }
     {
-        let speeds = self.speeds;
-        let nbase = self.nbase;
         match place {
-            AdvertisePlace::Ten => self.at(0x20, 0xefff, bit(0x1000, speeds.g10)),
+            AdvertisePlace::Ten => self.at(0x20, 0xefff, bit(0x1000, self.speeds.g10)),
             AdvertisePlace::One => {
-                let keep = Advertised::keep(nbase);
-                self.at(0xc400, keep, Advertised::set(nbase, speeds.g1))
+                let keep = Advertised::keep(self.nbase);
+                self.at(0xc400, keep, Advertised::set(self.nbase, self.speeds.g1))
             }
-            AdvertisePlace::Hundred => self.at(0x10, 0xfe7f, bit(0x100, speeds.m100)),
+            AdvertisePlace::Hundred => self.at(0x10, 0xfe7f, bit(0x100, self.speeds.m100)),
             AdvertisePlace::Restart => self.at(0, 0xffff, 0x200),
         }
     }
@@ -158,9 +157,7 @@ impl Advertise {
     ) -> Step<Job, Advertise, Result<bool, Error>>
         ensures { (b : List ℕ) → told_advertise port asked b result ≡ resume_advertise port asked self got }
     {
-        let place = self.place;
-        let modify = self.modify;
-        let step = modify.next(asked.register(place), port, got);
-        Advertise::after_modify(asked, port, place, step)
+        let step = self.modify.next(asked.register(self.place), port, got);
+        Advertise::after_modify(asked, port, self.place, step)
     }
 }

@@ -7,7 +7,7 @@ use crate::modify::Register;
 use access::access::Job;
 use hardware::{Error, Port, Step};
 
-// Which read. The bit latches low, so the first says what was.
+// Which read. The bit latches low, so the first says what was. It ends with whether the link is up.
 #[derive(Clone, Copy)]
 pub enum AnLink {
     First,
@@ -31,12 +31,12 @@ impl AnLink {
     ) -> Step<Job, AnLink, Result<bool, Error>>
         ensures { (b : List ℕ) → told_an_link port phy b result ≡ resume_an_link port phy self got }
     {
-        match got {
-            Err(e) => Step::Done(Err(e)),
-            Ok(v) => match self {
-                AnLink::First => Step::Ask(Job::ReadReg(phy, Register::AN, 1), AnLink::Second),
-                AnLink::Second => Step::Done(Ok(v & 4 != 0)),
-            },
+        match (self, got) {
+            (_, Err(e)) => Step::Done(Err(e)),
+            (AnLink::First, Ok(_)) => {
+                Step::Ask(Job::ReadReg(phy, Register::AN, 1), AnLink::Second)
+            }
+            (AnLink::Second, Ok(v)) => Step::Done(Ok(v & 4 != 0)),
         }
     }
 }

@@ -23,16 +23,7 @@ fn firmware_phy(device: u16) -> bool
 fn slow_device(device: u16) -> bool
     ensures { slow_device device ≡ result }
 {
-    if device == 0x15c6 {
-        return true;
-    }
-    if device == 0x15c7 {
-        return true;
-    }
-    if device == 0x15c8 {
-        return true;
-    }
-    device == 0x15ce
+    matches!(device, 0x15c6 | 0x15c7 | 0x15c8 | 0x15ce)
 }
 
 impl Clock {
@@ -42,8 +33,7 @@ impl Clock {
     pub fn of(port: Port) -> Option<bool>
         ensures { speed_of port ≡ result }
     {
-        let family = port.family;
-        match family {
+        match port.family {
             Family::X552 => {
                 if port.device == 0x15ad {
                     Some(false)
@@ -88,15 +78,13 @@ impl Clock {
     ) -> Step<Job, Clock, Result<(), Error>>
         ensures { (b : List ℕ) → told_clock port fast b result ≡ resume_clock fast self got }
     {
-        match got {
-            Err(e) => Step::Done(Err(e)),
-            Ok(hlreg0) => match self {
-                Clock::Reading => Step::Ask(
-                    Job::Write(Port::HLREG0, Clock::set(fast, hlreg0)),
-                    Clock::Writing,
-                ),
-                Clock::Writing => Step::Done(Ok(())),
-            },
+        match (self, got) {
+            (_, Err(e)) => Step::Done(Err(e)),
+            (Clock::Reading, Ok(hlreg0)) => {
+                let job = Job::Write(Port::HLREG0, Clock::set(fast, hlreg0));
+                Step::Ask(job, Clock::Writing)
+            }
+            (Clock::Writing, Ok(_)) => Step::Done(Ok(())),
         }
     }
 }

@@ -15,6 +15,7 @@ pub struct Register {
     pub set: u16,
 }
 
+// It ends with the value written.
 #[derive(Clone, Copy)]
 pub enum Modify {
     Reading,
@@ -56,16 +57,14 @@ impl Modify {
     ) -> Step<Job, Modify, Result<u32, Error>>
         ensures { (b : List ℕ) → told_modify port at b result ≡ resume_modify port at self got }
     {
-        match got {
-            Err(e) => Step::Done(Err(e)),
-            Ok(v) => match self {
-                Modify::Reading => {
-                    let value = (v & at.keep as u32 | at.set as u32) as u16;
-                    let job = Job::WriteReg(at.phy, at.device, at.register, value);
-                    Step::Ask(job, Modify::Writing(value))
-                }
-                Modify::Writing(value) => Step::Done(Ok(value as u32)),
-            },
+        match (self, got) {
+            (_, Err(e)) => Step::Done(Err(e)),
+            (Modify::Reading, Ok(v)) => {
+                let value = (v & at.keep as u32 | at.set as u32) as u16;
+                let job = Job::WriteReg(at.phy, at.device, at.register, value);
+                Step::Ask(job, Modify::Writing(value))
+            }
+            (Modify::Writing(value), Ok(_)) => Step::Done(Ok(value as u32)),
         }
     }
 }

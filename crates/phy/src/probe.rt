@@ -8,6 +8,7 @@ use access::access::Job;
 use hardware::{Error, Port, Step};
 use words::phy::phy_id;
 
+// It ends with the PHY's id, or None where no PHY answers.
 #[derive(Clone, Copy)]
 pub enum Probe {
     High,
@@ -34,10 +35,7 @@ impl Probe {
     fn high(phy: u32, port: Port, high: u32) -> Step<Job, Probe, Result<Option<u32>, Error>>
         ensures { (b : List ℕ) → told_probe port phy b result ≡ probe_high port phy high }
     {
-        if high == 0 {
-            return Step::Done(Ok(None));
-        }
-        if high == 0xffff {
+        if high == 0 || high == 0xffff {
             return Step::Done(Ok(None));
         }
         Step::Ask(Job::ReadReg(phy, Register::PMA, 3), Probe::Low(high))
@@ -51,12 +49,10 @@ impl Probe {
     ) -> Step<Job, Probe, Result<Option<u32>, Error>>
         ensures { (b : List ℕ) → told_probe port phy b result ≡ resume_probe port phy self got }
     {
-        match got {
-            Err(e) => Step::Done(Err(e)),
-            Ok(v) => match self {
-                Probe::High => Probe::high(phy, port, v),
-                Probe::Low(high) => Step::Done(Ok(phy_id(high, v))),
-            },
+        match (self, got) {
+            (_, Err(e)) => Step::Done(Err(e)),
+            (Probe::High, Ok(v)) => Probe::high(phy, port, v),
+            (Probe::Low(high), Ok(v)) => Step::Done(Ok(phy_id(high, v))),
         }
     }
 }

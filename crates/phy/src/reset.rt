@@ -75,7 +75,7 @@ impl Reset {
         }
     }
 
-    #[tactic(auto, unfolding(reference::specs::Mdio::reset))]
+    #[tactic(auto, using(hardware::proofs::Laws::then_assoc, access::proofs::Laws::wrote), unfolding(reference::specs::Mdio::reset))]
     pub fn start(phy: u32, x557: bool, port: Port) -> Step<Job, Reset, Result<(), Error>>
         ensures { (b : List ℕ) → told_reset port phy x557 b result ≡ reset port phy x557 }
     {
@@ -95,18 +95,16 @@ impl Reset {
     ) -> Step<Job, Reset, Result<(), Error>>
         ensures { (b : List ℕ) → told_reset port phy x557 b result ≡ resume_reset port phy x557 self got }
     {
-        match got {
-            Err(e) => Step::Done(Err(e)),
-            Ok(v) => match self {
-                Reset::Starting => Reset::again(phy, x557, port, 30),
-                Reset::Waiting(left) => Reset::poll(phy, x557, port, left),
-                Reset::Polling(left) => Reset::seen(phy, x557, port, left, v),
-                Reset::Settling => Step::Ask(
-                    Job::ReadReg(phy, Register::PHY_XS, 0),
-                    Reset::Checking,
-                ),
-                Reset::Checking => Step::Done(Reset::checked(v)),
-            },
+        match (self, got) {
+            (_, Err(e)) => Step::Done(Err(e)),
+            (Reset::Starting, Ok(_)) => Reset::again(phy, x557, port, 30),
+            (Reset::Waiting(left), Ok(_)) => Reset::poll(phy, x557, port, left),
+            (Reset::Polling(left), Ok(v)) => Reset::seen(phy, x557, port, left, v),
+            (Reset::Settling, Ok(_)) => {
+                let job = Job::ReadReg(phy, Register::PHY_XS, 0);
+                Step::Ask(job, Reset::Checking)
+            }
+            (Reset::Checking, Ok(v)) => Step::Done(Reset::checked(v)),
         }
     }
 }

@@ -8,7 +8,7 @@ use crate::probe::Probe;
 use access::access::Job;
 use hardware::{Error, Port, Step};
 
-// The PHY that is probed.
+// The PHY that is probed. It ends with the first PHY that answers and its id, or None.
 #[derive(Clone, Copy)]
 pub struct Scan {
     pub phy: u8,
@@ -65,9 +65,7 @@ impl Scan {
     ) -> Step<Job, Scan, Result<Option<(u8, u32)>, Error>>
         ensures { (b : List ℕ) → told_scan port b result ≡ resume_scan port self got }
     {
-        let phy = self.phy;
-        let probe = self.probe;
-        let step = probe.next(phy as u32, port, got);
-        Scan::after_probe(port, phy, step)
+        let step = self.probe.next(self.phy as u32, port, got);
+        Scan::after_probe(port, self.phy, step)
     }
 }

@@ -22,8 +22,8 @@ fn replay<R: Read, W: Write>(
     n: usize,
 ) -> io::Result<Listed> {
     let line = part(buf, start, end);
-    let behind = print(sink, out, n, line, line.len())?;
-    let m = print(sink, out, behind, b"\n", 1)?;
+    let behind = print(sink, out, n, line)?;
+    let m = print(sink, out, behind, b"\n")?;
     listing(source, buf, input.within(true), sink, out, m, false)
 }
 

@@ -1,8 +1,9 @@
 -- What goes on inside a larger machine
 use Rattle.std.specs.Prelude.{Ok}
+use Rattle.std.proofs.Common.{◌≡◌, sym, ap}
 use Rattle.hardware.specs.declared.Step.{Step}
 use Rattle.hardware.specs.declared.Step.TheVariants as step
-use Rattle.hardware.specs.Talk.{or_stop, end, Res}
+use Rattle.hardware.specs.Talk.{Talk, or_stop, end, Res}
 use Prim.Native.Nat.{ℕ}
 use mathlib.Core.Bool.{true, false}
 use mathlib.Core.List.{List}
@@ -10,7 +11,7 @@ use lib.ListN.{take}
 use Rattle.hardware.specs.declared.Action.{Action}
 use Rattle.hardware.specs.declared.Port.{Port}
 use Rattle.drive.specs.Moves.{Tape, Moves}
-use Rattle.drive.proofs.Laws.{inside}
+use Rattle.drive.proofs.Laws.{from_as, inside, told_as}
 use Rattle.reference.specs.Acquire.{acquire_times, acquire_ask, acquire_got, acquire_lost, hw_of, release, release_rest, forget}
 use Rattle.reference.specs.Hostif.{exchange}
 use Rattle.reference.specs.Sync.{plain, with_block, held_taken, held_given, release_bits}
@@ -34,6 +35,11 @@ use Rattle.access.specs.Locked.{told_locked, locked_held, zero_of}
 use Rattle.access.specs.declared.locked.HoldPlace.{HoldPlace}
 use Rattle.access.specs.declared.locked.HoldPlace.TheVariants as place
 use Rattle.access.specs.declared.locked.Locked.TheVariants as locked
+
+-- of a state whose variant is known, up to what the code gave
+pub moves_as : {S A : Type 0} {rs : List ℕ} {m n : Talk A} {t u : Tape} (says : S → Talk A) {s s' : S}
+    → s ≡ s' → n ≡ m → Moves rs (says s') t m u → Moves rs (says s) t n u
+moves_as says is gave p = from_as (ap says is) (told_as (sym gave) p)
 
 pub bits_moves : {rs : List ℕ} {t u : Tape} {a : Action} (port : Port) (hw : ℕ) (b : List ℕ) (p : BitsPlace) (s : Sync) (next : Step Action Sync (Res (Unit {0})))
     → Moves rs (told_sync hw (step.Ask a s)) t (told_sync hw next) u

@@ -10,6 +10,7 @@ use sideband::idle::Idle;
 use sideband::kr::KrCall;
 
 // MDIO cycles and the sideband's as far as they go; the NVM's command stays where it is.
+#[tactic(auto, using(drive::specs::Moves::stays))]
 pub fn run(
     s: Body,
     a: Action,

@@ -1,23 +1,26 @@
 // A command of the host interface over a script.
 ghost use Rattle.std.specs.Prelude.{take};
-ghost use Rattle.hostif.specs.Command.{resume_command};
+ghost use Rattle.drive.specs.Moves.{tape, Moves};
+ghost use Rattle.hostif.specs.Command.{resume_command, told_command};
 
-use crate::lent::{Lent, Runs, single};
-use drive::{Host, machine};
+use crate::lent::{Lent, Runs};
+use drive::{Host, act, machine};
 use hardware::{Action, Error, Port, Reply, Step};
 use hostif::command::Command;
 use words::semaphore::Bits;
 
-// How many words of the block belong to it, the first ones.
+// What a command is given, at each reply too.
 #[derive(Clone, Copy)]
 pub struct CommandCall {
     pub port: Port,
+    // how many words of the block belong to it, the first ones
     pub words: usize,
 }
 
 impl Lent for Command {
     type Context = CommandCall;
 
+    // the status
     type Answer = Result<u32, Error>;
 
     // the status, and those words
@@ -37,8 +40,30 @@ impl Lent for Command {
     }
 }
 
+// acquire_bits and release_bits as far as they go; of the exchange, one action. The block may be of any length.
+#[tactic(auto, using(drive::specs::Moves::stays))]
+pub fn advance_of(
+    s: Command,
+    a: Action,
+    call: CommandCall,
+    block: &mut [u32],
+    h: &mut Host,
+    replies: &[u32],
+    t: &mut [u32],
+) -> Step<Action, Command, Result<u32, Error>>
+    ensures { Moves replies.now (told_command call.port (take call.words block.old) (Step.Ask a s)) (tape h.old t.old) (told_command call.port (take call.words block.new) result) (tape h.new t.new) }
+{
+    if let Command::Sync(place, m) = s {
+        let step = machine::run(m, a, Bits::SW_MNG, h, replies, t);
+        return Command::synced(call.port, place, step);
+    }
+    match act(h, a, replies, t) {
+        None => Step::Ask(a, s),
+        Some(reply) => s.next_of(call.words, call.port, block, reply),
+    }
+}
+
 impl Runs for Command {
-    // acquire_bits and release_bits as far as they go; of the exchange, one action.
     fn advance(
         self,
         a: Action,
@@ -48,10 +73,6 @@ impl Runs for Command {
         replies: &[u32],
         t: &mut [u32],
     ) -> Step<Action, Command, Result<u32, Error>> {
-        if let Command::Sync(place, m) = self {
-            let step = machine::run(m, a, Bits::SW_MNG, h, replies, t);
-            return Command::synced(call.port, place, step);
-        }
-        single(self, a, call, block, h, replies, t)
+        advance_of(self, a, call, block, h, replies, t)
     }
 }

@@ -7,10 +7,11 @@ use access::hold::Hold;
 use drive::{Host, machine};
 use hardware::{Action, Error, Port, Reply, Step};
 
-// The mask without TOKEN.
+// What acquire or release is given, at each reply too.
 #[derive(Clone, Copy)]
 pub struct HoldCall {
     pub port: Port,
+    // the mask without TOKEN
     pub hw: u32,
 }
 
@@ -46,15 +47,17 @@ impl Runs for Hold {
         replies: &[u32],
         t: &mut [u32],
     ) -> Step<Action, Hold, Result<(), Error>> {
-        let port = call.port;
         if let Hold::Bits(place, m) = self {
             let step = machine::run(m, a, call.hw, h, replies, t);
-            return Hold::bits(port, call.hw, block, place, step);
+            return Hold::bits(call.port, call.hw, block, place, step);
         }
         if let Hold::Token(place, m) = self {
-            let token = CommandCall { port, words: 2 };
+            let token = CommandCall {
+                port: call.port,
+                words: 2,
+            };
             let step = run(m, a, token, block, h, replies, t);
-            return Hold::commanded(port, call.hw, place, step);
+            return Hold::commanded(call.port, call.hw, place, step);
         }
         single(self, a, call, block, h, replies, t)
     }

@@ -33,6 +33,7 @@ pub trait Lent: Copy {
 }
 
 // One action over a script, where there are a reply and room for it.
+#[tactic(auto, using(drive::specs::Moves::stays, drive::proofs::Laws::act_done))]
 pub fn single<M: Lent>(
     s: M,
     a: Action,
@@ -66,6 +67,7 @@ pub trait Runs: Lent {
 }
 
 // Over a script, as far as it goes. By a loop, as in drive.
+#[tactic(auto, using(drive::specs::Moves::stays, drive::proofs::Laws::then, drive::proofs::Laws::moves_less))]
 pub fn run<M: Runs>(
     from: M,
     first: Action,

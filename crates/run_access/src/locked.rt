@@ -9,6 +9,7 @@ use access::locked::Locked;
 use drive::Host;
 use hardware::{Action, Error, Port, Reply, Step};
 
+// What `locked` is given, at each reply too.
 #[derive(Clone, Copy)]
 pub struct LockedCall {
     pub port: Port,
@@ -18,6 +19,7 @@ pub struct LockedCall {
 impl Lent for Locked {
     type Context = LockedCall;
 
+    // what was read under the lock, 0 where nothing was
     type Answer = Result<u32, Error>;
 
     type End = Result<u32, Error>;
@@ -47,19 +49,18 @@ impl Runs for Locked {
         replies: &[u32],
         t: &mut [u32],
     ) -> Step<Action, Locked, Result<u32, Error>> {
-        let port = call.port;
         match self {
             Locked::Hold(place, m) => {
                 let hold = HoldCall {
-                    port,
+                    port: call.port,
                     hw: call.mask & !Hold::TOKEN,
                 };
                 let step = run(m, a, hold, block, h, replies, t);
-                Locked::held(port, call.mask, block, place, step)
+                Locked::held(call.port, call.mask, block, place, step)
             }
             Locked::Body(m) => {
                 let step = body::run(m, a, h, replies, t);
-                Locked::after_body(port, call.mask, block, step)
+                Locked::after_body(call.port, call.mask, block, step)
             }
         }
     }

@@ -50,6 +50,7 @@ impl Machine for Idle {
     // the wait between two reads
     type Context = u32;
 
+    // the CTRL that was not busy
     type Answer = Result<u32, Error>;
 
     ghost resume = { resume_idle };

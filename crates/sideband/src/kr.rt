@@ -1,6 +1,6 @@
 // The closures of x552.rs's `kr_read` and `kr_write`. CTRL selects the register; then a read waits before DATA, a write after it.
 ghost use Rattle.std.specs.Prelude.{◌≡◌};
-ghost use Rattle.reference.specs.X552.{iosf_check};
+ghost use Rattle.reference.specs.X552.{iosf_check, iosf_idle};
 ghost use Rattle.sideband.specs.Idle.{told_idle};
 ghost use Rattle.sideband.specs.Kr.{kr_address, kr_body, kr_rest, kr_checked, kr_selected, kr_first, kr_data, resume_kr, told_kr};
 
@@ -81,11 +81,17 @@ impl Kr {
     {
         match step {
             Step::Ask(a, s) => Step::Ask(a, Kr::Second(s)),
-            Step::Done(r) => match r {
-                Err(e) => Step::Done(Err(e)),
-                Ok(ctrl) => Kr::check(call, ctrl),
-            },
+            Step::Done(Err(e)) => Step::Done(Err(e)),
+            Step::Done(Ok(ctrl)) => Kr::check(call, ctrl),
         }
+    }
+
+    // The second wait.
+    #[tactic(auto, using(hardware::proofs::Laws::then_said))]
+    fn settled(call: KrCall) -> Step<Action, Kr, Result<u32, Error>>
+        ensures { told_kr call.pause call.wanted result ≡ kr_checked call.wanted (iosf_idle call.pause) }
+    {
+        Kr::second(call, Idle::start(call.pause))
     }
 
     fn selected(call: KrCall, done: Result<(), Error>) -> Step<Action, Kr, Result<u32, Error>>
@@ -94,7 +100,7 @@ impl Kr {
         match done {
             Err(e) => Step::Done(Err(e)),
             Ok(()) => match call.wanted {
-                KrWanted::Read(_) => Kr::second(call, Idle::start(call.pause)),
+                KrWanted::Read(_) => Kr::settled(call),
                 KrWanted::Write(_, value) => Step::Ask(Action::Write(Kr::DATA, value), Kr::Data),
             },
         }
@@ -108,10 +114,11 @@ impl Kr {
     {
         match step {
             Step::Ask(a, s) => Step::Ask(a, Kr::First(s)),
-            Step::Done(r) => match r {
-                Err(e) => Step::Done(Err(e)),
-                Ok(_) => Step::Ask(Action::Write(Idle::CTRL, call.wanted.address()), Kr::Select),
-            },
+            Step::Done(Err(e)) => Step::Done(Err(e)),
+            Step::Done(Ok(_)) => Step::Ask(
+                Action::Write(Idle::CTRL, call.wanted.address()),
+                Kr::Select,
+            ),
         }
     }
 
@@ -122,11 +129,12 @@ impl Kr {
             KrWanted::Read(_) => Step::Done(raw(reply)),
             KrWanted::Write(_, _) => match done(reply) {
                 Err(e) => Step::Done(Err(e)),
-                Ok(()) => Kr::second(call, Idle::start(call.pause)),
+                Ok(()) => Kr::settled(call),
             },
         }
     }
 
+    #[tactic(auto, using(hardware::proofs::Laws::then_said, crate::proofs::Laws::begun))]
     pub fn start(call: KrCall) -> Step<Action, Kr, Result<u32, Error>>
         ensures { told_kr call.pause call.wanted result ≡ kr_body call.pause call.wanted }
     {
@@ -137,10 +145,12 @@ impl Kr {
 impl Machine for Kr {
     type Context = KrCall;
 
+    // DATA's word; 0 after a write
     type Answer = Result<u32, Error>;
 
     ghost resume = { λ c. resume_kr c.pause c.wanted };
 
+    #[tactic(auto, using(hardware::proofs::Laws::then_said))]
     fn next(self, call: KrCall, reply: Reply) -> Step<Action, Kr, Result<u32, Error>> {
         match self {
             Kr::First(s) => Kr::first(call, s.next(call.pause, reply)),
@@ -169,8 +179,7 @@ impl Runs for Kr {
                 let step = run(s, a, call.pause, h, replies, t);
                 Kr::second(call, step)
             }
-            Kr::Select => single(Kr::Select, a, call, h, replies, t),
-            Kr::Data => single(Kr::Data, a, call, h, replies, t),
+            Kr::Select | Kr::Data => single(self, a, call, h, replies, t),
         }
     }
 }

@@ -1,5 +1,5 @@
 // The closure of x552.rs's `nvm_word`: a block of four words is posted, and the word is read where its last one stood.
-ghost use Rattle.std.specs.Prelude.{ℕ, ◌≤◌, List, ◌≡◌, length, take};
+ghost use Rattle.std.specs.Prelude.{ℕ, List, ◌≡◌, take};
 ghost use Rattle.reference.specs.X552.{nvm_body};
 ghost use Rattle.hostif.specs.Post.{resume_post, told_post};
 ghost use Rattle.sideband.specs.Nvm.{nvm_block, nvm_posted, resume_nvm, told_nvm};
@@ -8,6 +8,7 @@ use hardware::{Action, Error, Reply, Step, raw};
 use hostif::post::Post;
 use words::hostif::{flex_mng, nvm_address};
 
+// Its answer is the word.
 #[derive(Clone, Copy)]
 pub enum Nvm {
     Post(Post),
@@ -21,20 +22,10 @@ impl Nvm {
     // two bytes, as the firmware has them
     pub const LENGTH: u32 = 0x200;
 
-    fn put_four(word: u16, block: &mut [u32])
-        requires { 4 ≤ length block.old }
-        ensures { take 4 block.new ≡ nvm_block word }
-    {
-        block[0] = Nvm::HEADER;
-        block[1] = nvm_address(word);
-        block[2] = Nvm::LENGTH;
-        block[3] = 0;
-    }
-
     fn put(word: u16, block: &mut [u32; 16])
         ensures { take 4 block.new ≡ nvm_block word }
     {
-        Nvm::put_four(word, block);
+        block[..4].copy_from_slice(&[Nvm::HEADER, nvm_address(word), Nvm::LENGTH, 0]);
     }
 
     fn after_post(
@@ -44,10 +35,8 @@ impl Nvm {
     {
         match step {
             Step::Ask(a, s) => Step::Ask(a, Nvm::Post(s)),
-            Step::Done(r) => match r {
-                Err(e) => Step::Done(Err(e)),
-                Ok(_) => Step::Ask(Action::Read(flex_mng(3)), Nvm::Data),
-            },
+            Step::Done(Err(e)) => Step::Done(Err(e)),
+            Step::Done(Ok(_)) => Step::Ask(Action::Read(flex_mng(3)), Nvm::Data),
         }
     }
 
@@ -61,11 +50,8 @@ impl Nvm {
     fn posting(s: Post, block: &[u32], reply: Reply) -> Step<Action, Nvm, Result<u32, Error>>
         ensures { told_nvm block.now result ≡ nvm_posted (resume_post s (take 4 block.now) reply) }
     {
-        if 4 <= block.len() {
-            Nvm::after_post(s.next(&block[..4], reply))
-        } else {
-            Nvm::after_post(s.next(block, reply))
-        }
+        let words = usize::min(4, block.len());
+        Nvm::after_post(s.next(&block[..words], reply))
     }
 
     // The block is the one that it began with.
@@ -74,10 +60,7 @@ impl Nvm {
     {
         match self {
             Nvm::Post(s) => Nvm::posting(s, block, reply),
-            Nvm::Data => match raw(reply) {
-                Err(e) => Step::Done(Err(e)),
-                Ok(v) => Step::Done(Ok(v % 0x1_0000)),
-            },
+            Nvm::Data => Step::Done(raw(reply).map(|v| v % 0x1_0000)),
         }
     }
 }

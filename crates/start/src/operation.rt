@@ -60,31 +60,16 @@ impl Operation {
         ensures { phy_of self ≡ result }
     {
         match self {
-            Operation::Veto => 0,
-            Operation::Link => 0,
-            Operation::Acquire(_) => 0,
-            Operation::Release(_) => 0,
-            Operation::Command => 0,
-            Operation::Token(_) => 0,
-            Operation::PhyActivity(_) => 0,
             Operation::ReadReg(phy, _, _) => phy,
             Operation::WriteReg(phy, _, _, _) => phy,
             Operation::Modify(at) => at.phy,
             Operation::Probe(phy) => phy,
-            Operation::Scan => 0,
             Operation::Reset(phy, _) => phy,
             Operation::Abilities(phy) => phy,
             Operation::Advertise(asked) => asked.phy,
             Operation::AnLink(phy) => phy,
-            Operation::KrRead(_) => 0,
-            Operation::KrWrite(_, _) => 0,
-            Operation::KrModify(_) => 0,
-            Operation::RestartAn => 0,
-            Operation::KrAutoneg(_, _) => 0,
-            Operation::NvmWord(_) => 0,
-            Operation::AfterReset => 0,
-            Operation::Bringup(_) => 0,
             Operation::Poll(watch) => watch.phy,
+            _ => 0,
         }
     }
 
@@ -94,31 +79,10 @@ impl Operation {
         ensures { device_of self ≡ result }
     {
         match self {
-            Operation::Veto => 0,
-            Operation::Link => 0,
-            Operation::Acquire(_) => 0,
-            Operation::Release(_) => 0,
-            Operation::Command => 0,
-            Operation::Token(_) => 0,
-            Operation::PhyActivity(_) => 0,
             Operation::ReadReg(_, device, _) => device,
             Operation::WriteReg(_, device, _, _) => device,
             Operation::Modify(at) => at.device,
-            Operation::Probe(_) => 0,
-            Operation::Scan => 0,
-            Operation::Reset(_, _) => 0,
-            Operation::Abilities(_) => 0,
-            Operation::Advertise(_) => 0,
-            Operation::AnLink(_) => 0,
-            Operation::KrRead(_) => 0,
-            Operation::KrWrite(_, _) => 0,
-            Operation::KrModify(_) => 0,
-            Operation::RestartAn => 0,
-            Operation::KrAutoneg(_, _) => 0,
-            Operation::NvmWord(_) => 0,
-            Operation::AfterReset => 0,
-            Operation::Bringup(_) => 0,
-            Operation::Poll(_) => 0,
+            _ => 0,
         }
     }
 }

@@ -10,7 +10,7 @@ use crate::operation::Operation;
 use access::access::{Access, Given, Job};
 use activity::{Activity, Asked};
 use bringup::Bringup;
-use hardware::{Action, Port, Step};
+use hardware::{Action, Managed, Port, Step};
 use hostif::token::Token;
 use kr::modify::{Change, KrModify};
 use kr::sequence::{KrPlace, Sequence};
@@ -56,6 +56,7 @@ fn token(port: Port, take: bool, block: &mut [u32; 16]) -> Step<Job, After, Ende
     Step::Ask(Job::Command(2), After::Token(take))
 }
 
+#[tactic(auto, using(hardware::proofs::Laws::then_assoc))]
 fn phy_activity(port: Port, asked: Asked, block: &mut [u32; 16]) -> Step<Job, After, Ended>
     ensures { told_after port block.new result ≡ ops.operation port (op_of (operation.PhyActivity asked) block.old) }
 {
@@ -63,6 +64,7 @@ fn phy_activity(port: Port, asked: Asked, block: &mut [u32; 16]) -> Step<Job, Af
     After::activity(port, asked, step)
 }
 
+#[tactic(auto, using(hardware::proofs::Laws::then_assoc, operations::proofs::Laws::word_begun))]
 fn read_reg(port: Port, phy: u32, device: u32, register: u16) -> Step<Job, After, Ended>
     ensures { (b : List ℕ) → told_after port b result ≡ ops.operation port (ops.ReadReg phy device register) }
 {
@@ -89,6 +91,7 @@ fn abilities(port: Port, phy: u32) -> Step<Job, After, Ended>
     Step::Ask(job, After::Abilities)
 }
 
+#[tactic(auto, using(hardware::proofs::Laws::then_assoc))]
 fn modify(port: Port, at: Register) -> Step<Job, After, Ended>
     ensures { (b : List ℕ) → told_after port b result ≡ ops.operation port (op_of (operation.Modify at) []) }
 {
@@ -96,6 +99,7 @@ fn modify(port: Port, at: Register) -> Step<Job, After, Ended>
     Mdio::modify(port, at, step)
 }
 
+#[tactic(auto, using(hardware::proofs::Laws::then_assoc))]
 fn probe(port: Port, phy: u32) -> Step<Job, After, Ended>
     ensures { (b : List ℕ) → told_after port b result ≡ ops.operation port (ops.Probe phy) }
 {
@@ -103,6 +107,7 @@ fn probe(port: Port, phy: u32) -> Step<Job, After, Ended>
     Mdio::probe(port, phy, step)
 }
 
+#[tactic(auto, using(hardware::proofs::Laws::then_assoc))]
 fn scan(port: Port) -> Step<Job, After, Ended>
     ensures { (b : List ℕ) → told_after port b result ≡ ops.operation port ops.Scan }
 {
@@ -110,6 +115,7 @@ fn scan(port: Port) -> Step<Job, After, Ended>
     Mdio::scan(port, step)
 }
 
+#[tactic(auto, using(hardware::proofs::Laws::then_assoc))]
 fn reset(port: Port, phy: u32, x557: bool) -> Step<Job, After, Ended>
     ensures { (b : List ℕ) → told_after port b result ≡ ops.operation port (ops.Reset phy x557) }
 {
@@ -117,6 +123,7 @@ fn reset(port: Port, phy: u32, x557: bool) -> Step<Job, After, Ended>
     Mdio::reset(port, phy, x557, step)
 }
 
+#[tactic(auto, using(hardware::proofs::Laws::then_assoc))]
 fn advertise(port: Port, asked: Advertised) -> Step<Job, After, Ended>
     ensures { (b : List ℕ) → told_after port b result ≡ ops.operation port (op_of (operation.Advertise asked) []) }
 {
@@ -124,6 +131,7 @@ fn advertise(port: Port, asked: Advertised) -> Step<Job, After, Ended>
     Mdio::advertise(port, asked, step)
 }
 
+#[tactic(auto, using(hardware::proofs::Laws::then_assoc))]
 fn an_link(port: Port, phy: u32) -> Step<Job, After, Ended>
     ensures { (b : List ℕ) → told_after port b result ≡ ops.operation port (ops.AnLink phy) }
 {
@@ -131,6 +139,7 @@ fn an_link(port: Port, phy: u32) -> Step<Job, After, Ended>
     Mdio::an_link(port, phy, step)
 }
 
+#[tactic(auto, using(hardware::proofs::Laws::then_assoc, operations::proofs::Laws::word_begun))]
 fn kr_read(port: Port, address: u32) -> Step<Job, After, Ended>
     ensures { (b : List ℕ) → told_after port b result ≡ ops.operation port (ops.KrRead address) }
 {
@@ -143,6 +152,7 @@ fn kr_write(port: Port, address: u32, value: u32) -> Step<Job, After, Ended>
     Step::Ask(Job::KrWrite(address, value), After::Nothing)
 }
 
+#[tactic(auto, using(hardware::proofs::Laws::then_assoc))]
 fn kr_modify(port: Port, change: Change) -> Step<Job, After, Ended>
     ensures { (b : List ℕ) → told_after port b result ≡ ops.operation port (op_of (operation.KrModify change) []) }
 {
@@ -150,7 +160,7 @@ fn kr_modify(port: Port, change: Change) -> Step<Job, After, Ended>
     Kr::modify(port, change, step)
 }
 
-#[tactic(auto, unfolding(reference::specs::X552::restart_an))]
+#[tactic(auto, using(hardware::proofs::Laws::then_assoc), unfolding(reference::specs::X552::restart_an))]
 fn restart_an(port: Port) -> Step<Job, After, Ended>
     ensures { (b : List ℕ) → told_after port b result ≡ ops.operation port ops.RestartAn }
 {
@@ -158,7 +168,7 @@ fn restart_an(port: Port) -> Step<Job, After, Ended>
     Kr::sequence(port, step)
 }
 
-#[tactic(auto, unfolding(reference::specs::X552::kr_autoneg))]
+#[tactic(auto, using(hardware::proofs::Laws::then_assoc), unfolding(reference::specs::X552::kr_autoneg))]
 fn kr_autoneg(port: Port, kr: bool, kx: bool) -> Step<Job, After, Ended>
     ensures { (b : List ℕ) → told_after port b result ≡ ops.operation port (ops.KrAutoneg kr kx) }
 {
@@ -166,6 +176,7 @@ fn kr_autoneg(port: Port, kr: bool, kx: bool) -> Step<Job, After, Ended>
     Kr::sequence(port, step)
 }
 
+#[tactic(auto, using(hardware::proofs::Laws::then_assoc, operations::proofs::Laws::word_begun))]
 fn nvm_word(port: Port, word: u16) -> Step<Job, After, Ended>
     ensures { (b : List ℕ) → told_after port b result ≡ ops.operation port (ops.NvmWord word) }
 {
@@ -178,11 +189,13 @@ fn after_reset(port: Port) -> Step<Job, After, Ended>
     Mdio::after_reset(port)
 }
 
+#[tactic(auto, using(hardware::proofs::Laws::then_assoc))]
 fn bringup(port: Port, veto: bool, block: &mut [u32; 16]) -> Step<Job, After, Ended>
     ensures { told_after port block.new result ≡ ops.operation port (ops.Bringup veto) }
 {
-    let step = Bringup::start(veto, port, block);
-    After::bringup(port, veto, step)
+    let managed = Managed { port, veto };
+    let step = Bringup::start(managed, block);
+    After::bringup(managed, step)
 }
 
 fn poll(port: Port, watch: Watch) -> Step<Job, After, Ended>
@@ -193,6 +206,7 @@ fn poll(port: Port, watch: Watch) -> Step<Job, After, Ended>
 }
 
 // `words`: how many of the block are the host's.
+#[tactic(auto, using(hardware::proofs::Laws::then_assoc, operations::proofs::Laws::nothing_begun))]
 pub fn start(what: Operation, port: Port, block: &mut [u32; 16], words: usize) -> First
     ensures { told_first port block.new result ≡ ops.operation port (op_of what (take words block.old)) }
 {

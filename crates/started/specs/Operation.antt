@@ -1,6 +1,6 @@
 -- What a running operation still says
-use Rattle.hardware.specs.Talk.{Talk, ask, end, and_then, Reply}
-use Rattle.std.specs.Prelude.{ℕ, List, take}
+use Rattle.hardware.specs.Talk.{Talk, and_then, Reply}
+use Rattle.std.specs.Prelude.{ℕ, List}
 use Rattle.hardware.specs.declared.Port.{Port}
 use Rattle.reference.specs.Operations as ops
 use Rattle.access.specs.Access.{resume_access}

@@ -21,6 +21,7 @@ pub struct Op {
 
 impl Op {
     // The next access begins.
+    #[tactic(auto, using(hardware::proofs::Laws::then_assoc))]
     pub fn begun(
         port: Port,
         block: &mut [u32; 16],
@@ -31,10 +32,10 @@ impl Op {
     {
         let begun = job.start(port, block);
         let access = begun.access;
-        let action = begun.action;
-        Step::Ask(action, Op { access, after })
+        Step::Ask(begun.action, Op { access, after })
     }
 
+    #[tactic(auto, using(hardware::proofs::Laws::then_assoc))]
     pub fn decided(
         port: Port,
         block: &mut [u32; 16],
@@ -48,6 +49,7 @@ impl Op {
         }
     }
 
+    #[tactic(auto, using(hardware::proofs::Laws::then_assoc))]
     pub fn stepped(
         port: Port,
         after: After,
@@ -78,11 +80,10 @@ impl Lent for Op {
 
     ghost end = { λ port b ended. out b ended };
 
+    #[tactic(auto, using(hardware::proofs::Laws::then_assoc))]
     fn next(self, port: Port, block: &mut [u32; 16], reply: Reply) -> Step<Action, Op, Ended> {
-        let access = self.access;
-        let after = self.after;
-        let step = access.next(port, block, reply);
-        Op::stepped(port, after, block, step)
+        let step = self.access.next(port, block, reply);
+        Op::stepped(port, self.after, block, step)
     }
 }
 
@@ -97,9 +98,7 @@ impl Runs for Op {
         replies: &[u32],
         t: &mut [u32],
     ) -> Step<Action, Op, Ended> {
-        let access = self.access;
-        let after = self.after;
-        let step = run(access, a, port, block, h, replies, t);
-        Op::stepped(port, after, block, step)
+        let step = run(self.access, a, port, block, h, replies, t);
+        Op::stepped(port, self.after, block, step)
     }
 }

@@ -1,16 +1,12 @@
 -- Bytes that are put behind those that wait, or that wait alone once the others are written
-use Rattle.std.proofs.Common.{ℕ, ◌+◌, ◌≡◌, ◌≤◌, Bool, true, false, cond, List, ◌++◌, length, take, append_assoc, ap, sym, refl, ◌∙◌, arith}
-use Rattle.std.proofs.lemmas.Result.{IfOk-weaker}
-use Rattle.std.specs.Prelude.{Option, None, Some, Result, IfOk}
+use Rattle.std.proofs.Common.{ℕ, ◌+◌, ◌≡◌, ◌≤◌, Bool, true, false, cond, List, ◌++◌, length, take, append_assoc, ap, sym, refl, ◌∙◌, arith, leb}
+use Rattle.std.specs.Prelude.{Option, None, Some}
 use Rattle.std.specs.Option.{unwrap_or}
 use Rattle.std.specs.Io.KnownBytes.{append_known, Appends}
-use Rattle.std.proofs.Common.{leb}
 use Rattle.std.proofs.Math.Seq.{sets, length-sets}
 use Rattle.text.specs.Written.{written}
-use Rattle.text.proofs.PutLaws.{Fitted, fitted, written_front}
-use Rattle.lines.specs.Listing.{Added}
-use Rattle.lines.proofs.ListingLaws.{added_length, added_whole, never_full}
-use Rattle.streams.specs.Output.{printed, Prints, PrintsAll}
+use Rattle.text.proofs.PutLaws.{Fitted, fitted, written_front, written_fits}
+use Rattle.streams.specs.Output.{printed, Prints}
 
 -- nothing was written, and bytes were put behind those that wait
 kept : (known : Option (List ℕ)) (xs ys bytes : List ℕ) → ys ≡ xs ++ bytes → Appends (append_known known xs) (append_known known ys) bytes
@@ -57,7 +53,8 @@ module _ (out bytes mid : List ℕ) (n : ℕ) (full : written out n bytes ≡ (N
   pub alone : (r : Option ℕ) {end : ℕ} {left : List ℕ} → written mid 0 bytes ≡ (r, left) → end ≡ unwrap_or r 0 → length bytes ≤ length out
       → written mid 0 bytes ≡ (Some end, left)
   alone (Some m) e h fits = rw h e
-  alone None e h fits = never_full mid 0 bytes (fits_alone fits) e refl
+  alone None e h fits =
+      let full : None ≡ Some (0 + length bytes) = ap (λ (p : Option ℕ × List ℕ). p.0) (sym e ∙ written_fits mid 0 bytes (fits_alone fits)) in cc
 
 -- on from what was printed
 appends_on : (old mid new : Option (List ℕ)) (xs ys : List ℕ) → Appends old mid xs → Appends mid new ys → Appends old new (xs ++ ys)
@@ -70,13 +67,3 @@ pub prints_on : {old mid new : Option (List ℕ)} {out buf left xs ys : List ℕ
     → Prints old out n xs mid buf m → Prints mid buf m ys new left end → Prints old out n (xs ++ ys) new left end
 prints_on {old} {mid} {new} {out} {buf} {left} {xs} {ys} {n} {m} {end} a b =
     record { within = b.within; text = appends_on (printed old out n) (printed mid buf m) (printed new left end) xs ys a.text b.text }
-
--- a line that was written into 512 bytes, and then printed
-pub prints_line : {E : Type 0} (r : Result ℕ E) (out left : List ℕ) (n : ℕ) (old new : Option (List ℕ)) {zeros line text : List ℕ} {len : ℕ}
-    → Added zeros 0 text len line → length zeros ≡ 512 → len ≤ 512
-    → IfOk r (λ end. n ≤ length out → len ≤ length line → len ≤ length out → Prints old out n (take len line) new left end)
-    → PrintsAll r old out n text new left
-prints_line r out left n old new {zeros} {line} {text} {len} a z h =
-    let long : length line ≡ length zeros = added_length a in
-    let whole : take len line ≡ text = added_whole a (omega arith) in
-    IfOk-weaker r _ _ (λ end f inside room. rw whole at (f inside (omega arith) (omega arith)))

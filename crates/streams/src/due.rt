@@ -56,7 +56,7 @@ pub fn answer<R: Read>(a: Action, source: &mut R, buf: &mut [u8], input: Input) 
     }
     let Fetched { next, input } = fetch(source, buf, input);
     Answered {
-        due: read_reply(buf, next).map(|pair| Some(pair)),
+        due: read_reply(buf, next).map(Some),
         input,
     }
 }

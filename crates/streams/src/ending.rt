@@ -6,7 +6,7 @@ ghost use Rattle.streams.specs.Output.{PrintsAll};
 use crate::output::print;
 use answers::Value;
 use hardware::Error;
-use lines::listing::{end_line, left_line, stop_line};
+use lines::listing::{Line, end_line, left_line, stop_line};
 use std::io;
 use std::io::Write;
 
@@ -21,9 +21,9 @@ pub fn stop<W: Write>(
 ) -> io::Result<usize>
     ensures { PrintsAll result (W.contents sink.old) out.old n (stop_text number actions micros) (W.contents sink.new) out.new }
 {
-    let mut line = [0u8; 512];
-    let len = stop_line(number, actions, micros, &mut line);
-    print(sink, out, n, &line, len)
+    let mut line = Line::new();
+    stop_line(number, actions, micros, &mut line);
+    print(sink, out, n, line.as_slice())
 }
 
 // The last line of a conversation that has ended.
@@ -38,9 +38,9 @@ pub fn last<W: Write>(
 ) -> io::Result<usize>
     ensures { PrintsAll result (W.contents sink.old) out.old n (end_text answer block actions micros) (W.contents sink.new) out.new }
 {
-    let mut line = [0u8; 512];
-    let len = end_line(answer, block, actions, micros, &mut line);
-    print(sink, out, n, &line, len)
+    let mut line = Line::new();
+    end_line(answer, block, actions, micros, &mut line);
+    print(sink, out, n, line.as_slice())
 }
 
 // The host block that a `command` leaves.
@@ -53,7 +53,7 @@ pub fn print_left<W: Write>(
 ) -> io::Result<usize>
     ensures { PrintsAll result (W.contents sink.old) out.old n (left_text (take words host)) (W.contents sink.new) out.new }
 {
-    let mut line = [0u8; 512];
-    let len = left_line(host, words, &mut line);
-    print(sink, out, n, &line, len)
+    let mut line = Line::new();
+    left_line(host, words, &mut line);
+    print(sink, out, n, line.as_slice())
 }

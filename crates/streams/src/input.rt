@@ -87,11 +87,10 @@ fn read_to<R: Read>(source: &mut R, part: &mut [u8]) -> usize
 pub fn look(buf: &[u8], input: Input) -> Seen
     ensures { look_in buf.now input ≡ result }
 {
-    let to = input.to;
-    if to > buf.len() {
-        return Seen::Ended;
+    match buf.get(..input.to) {
+        Some(there) => lines::buffer::look(there, input.from, input.ended),
+        None => Seen::Ended,
     }
-    lines::buffer::look(&buf[..to], input.from, input.ended)
 }
 
 // Nothing is read where the buffer is full already.

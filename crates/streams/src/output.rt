@@ -16,23 +16,14 @@ pub fn flush<W: Write>(sink: &mut W, out: &[u8], n: usize) -> io::Result<()>
     sink.write_all(&out[..n])
 }
 
-// The first `len` bytes of a line go behind what waits to be written; where there is no room, that is written first.
-pub fn print<W: Write>(
-    sink: &mut W,
-    out: &mut [u8],
-    n: usize,
-    line: &[u8],
-    len: usize,
-) -> io::Result<usize>
-    ensures { IfOk result (λ end. n ≤ length out.old → len ≤ length line.now → len ≤ length out.old
-        → Prints (W.contents sink.old) out.old n (take len line.now) (W.contents sink.new) out.new end) }
+// Bytes go behind those that wait to be written; where there is no room, those are written first.
+pub fn print<W: Write>(sink: &mut W, out: &mut [u8], n: usize, bytes: &[u8]) -> io::Result<usize>
+    ensures { IfOk result (λ end. n ≤ length out.old → length bytes.now ≤ length out.old
+        → Prints (W.contents sink.old) out.old n bytes.now (W.contents sink.new) out.new end) }
 {
-    if len > line.len() {
-        return Ok(n);
-    }
-    if let Some(end) = text::put(out, n, &line[..len]) {
+    if let Some(end) = text::put(out, n, bytes) {
         return Ok(end);
     }
     flush(sink, out, n)?;
-    Ok(text::put(out, 0, &line[..len]).unwrap_or(0))
+    Ok(text::put(out, 0, bytes).unwrap_or(0))
 }

@@ -34,6 +34,7 @@ pub enum AcquireBits {
 }
 
 impl AcquireBits {
+    #[tactic(auto, using(hardware::proofs::Laws::carry_more, hardware::proofs::Laws::carry_none, hardware::proofs::Laws::then_said))]
     fn again(taking: Taking, left: u32, held: u32) -> Step<Action, AcquireBits, Result<(), Error>>
         ensures { told_acquire taking result ≡ acquire_bits_times taking.regs taking.want taking.mux left held }
     {
@@ -53,10 +54,11 @@ impl AcquireBits {
     {
         match step {
             Step::Ask(a, s) => Step::Ask(a, AcquireBits::Locking(left, s)),
-            Step::Done(r) => match r {
-                Ok(()) => Step::Ask(Action::Read(taking.regs.sync), AcquireBits::Reading(left)),
-                Err(e) => Step::Done(Err(e)),
-            },
+            Step::Done(Ok(())) => Step::Ask(
+                Action::Read(taking.regs.sync),
+                AcquireBits::Reading(left),
+            ),
+            Step::Done(Err(e)) => Step::Done(Err(e)),
         }
     }
 
@@ -121,10 +123,8 @@ impl AcquireBits {
     {
         match step {
             Step::Ask(a, s) => Step::Ask(a, AcquireBits::Ending(res, s)),
-            Step::Done(r) => match r {
-                Ok(()) => AcquireBits::ended(taking, res),
-                Err(e) => Step::Done(Err(e)),
-            },
+            Step::Done(Ok(())) => AcquireBits::ended(taking, res),
+            Step::Done(Err(e)) => Step::Done(Err(e)),
         }
     }
 
@@ -138,10 +138,8 @@ impl AcquireBits {
     {
         match step {
             Step::Ask(a, s) => Step::Ask(a, AcquireBits::Held(left, held, s)),
-            Step::Done(r) => match r {
-                Ok(()) => Step::Ask(Action::Wait(5000), AcquireBits::Waiting(left, held)),
-                Err(e) => Step::Done(Err(e)),
-            },
+            Step::Done(Ok(())) => Step::Ask(Action::Wait(5000), AcquireBits::Waiting(left, held)),
+            Step::Done(Err(e)) => Step::Done(Err(e)),
         }
     }
 }
@@ -153,6 +151,7 @@ impl Machine for AcquireBits {
 
     ghost resume = { resume_acquire };
 
+    #[tactic(auto, using(hardware::proofs::Laws::then_said))]
     fn next(self, taking: Taking, reply: Reply) -> Step<Action, AcquireBits, Result<(), Error>> {
         match self {
             AcquireBits::Locking(left, s) => AcquireBits::after_lock(
@@ -192,18 +191,20 @@ impl Runs for AcquireBits {
         replies: &[u32],
         t: &mut [u32],
     ) -> Step<Action, AcquireBits, Result<(), Error>> {
-        if let AcquireBits::Locking(left, s) = self {
-            let step = run(s, a, taking.regs, h, replies, t);
-            return AcquireBits::after_lock(taking, left, step);
+        match self {
+            AcquireBits::Locking(left, s) => {
+                let step = run(s, a, taking.regs, h, replies, t);
+                AcquireBits::after_lock(taking, left, step)
+            }
+            AcquireBits::Ending(result, s) => {
+                let step = run(s, a, taking.regs, h, replies, t);
+                AcquireBits::ending(taking, result, step)
+            }
+            AcquireBits::Held(left, held, s) => {
+                let step = run(s, a, taking.regs, h, replies, t);
+                AcquireBits::held(taking, left, held, step)
+            }
+            _ => single(self, a, taking, h, replies, t),
         }
-        if let AcquireBits::Ending(result, s) = self {
-            let step = run(s, a, taking.regs, h, replies, t);
-            return AcquireBits::ending(taking, result, step);
-        }
-        if let AcquireBits::Held(left, held, s) = self {
-            let step = run(s, a, taking.regs, h, replies, t);
-            return AcquireBits::held(taking, left, held, step);
-        }
-        single(self, a, taking, h, replies, t)
     }
 }

@@ -7,7 +7,7 @@ use drive::Host;
 use drive::machine::{Machine, Runs, run, single};
 use hardware::{Action, Error, Port, Regs, Reply, Step, checked, done};
 
-// smbi. The number is how many reads are left after this one.
+// smbi. The number is how many reads are left after this one. A read that finds SMBI clear takes it.
 #[derive(Clone, Copy)]
 pub enum Smbi {
     Reading(u32),
@@ -120,10 +120,8 @@ impl Lock {
     {
         match step {
             Step::Ask(a, s) => Step::Ask(a, Lock::Smbi(s)),
-            Step::Done(r) => match r {
-                Ok(()) => Lock::again(regs, 2000),
-                Err(e) => Step::Done(Err(e)),
-            },
+            Step::Done(Ok(())) => Lock::again(regs, 2000),
+            Step::Done(Err(e)) => Step::Done(Err(e)),
         }
     }
 
@@ -135,10 +133,8 @@ impl Lock {
     {
         match step {
             Step::Ask(a, s) => Step::Ask(a, Lock::Clearing(s)),
-            Step::Done(r) => match r {
-                Ok(()) => Step::Ask(Action::Read(Port::STATUS), Lock::Flushing),
-                Err(e) => Step::Done(Err(e)),
-            },
+            Step::Done(Ok(())) => Step::Ask(Action::Read(Port::STATUS), Lock::Flushing),
+            Step::Done(Err(e)) => Step::Done(Err(e)),
         }
     }
 
@@ -161,6 +157,7 @@ impl Lock {
         }
     }
 
+    #[tactic(auto, using(hardware::proofs::Laws::then_said))]
     pub fn start(regs: Regs) -> Step<Action, Lock, Result<(), Error>>
         ensures { told_lock regs result ≡ lock regs }
     {
@@ -175,16 +172,17 @@ impl Machine for Lock {
 
     ghost resume = { resume_lock };
 
+    #[tactic(auto, using(hardware::proofs::Laws::then_said))]
     fn next(self, regs: Regs, reply: Reply) -> Step<Action, Lock, Result<(), Error>> {
         match self {
             Lock::Smbi(s) => Lock::after_smbi(regs, s.next(regs.swsm, reply)),
             Lock::Reading(left) => Lock::read(regs, left, checked(reply)),
             Lock::Waiting(left) => Lock::again(regs, left),
             Lock::Clearing(s) => Lock::after_clear(regs, s.next(regs.swsm, Lock::SMBI, reply)),
-            Lock::Flushing => match done(reply) {
-                Ok(()) => Step::Done(Err(Error::Semaphore { held: Lock::REGSMP })),
-                Err(e) => Step::Done(Err(e)),
-            },
+            Lock::Flushing => {
+                let failed = Err(Error::Semaphore { held: Lock::REGSMP });
+                Step::Done(done(reply).and(failed))
+            }
         }
     }
 }
@@ -223,10 +221,8 @@ impl Unlock {
     {
         match step {
             Step::Ask(a, s) => Step::Ask(a, Unlock::Sync(s)),
-            Step::Done(r) => match r {
-                Ok(()) => Unlock::after_smbi(regs, Clear::start(regs.swsm, Lock::SMBI)),
-                Err(e) => Step::Done(Err(e)),
-            },
+            Step::Done(Ok(())) => Unlock::after_smbi(regs, Clear::start(regs.swsm, Lock::SMBI)),
+            Step::Done(Err(e)) => Step::Done(Err(e)),
         }
     }
 
@@ -238,10 +234,8 @@ impl Unlock {
     {
         match step {
             Step::Ask(a, s) => Step::Ask(a, Unlock::Smbi(s)),
-            Step::Done(r) => match r {
-                Ok(()) => Step::Ask(Action::Read(Port::STATUS), Unlock::Flushing),
-                Err(e) => Step::Done(Err(e)),
-            },
+            Step::Done(Ok(())) => Step::Ask(Action::Read(Port::STATUS), Unlock::Flushing),
+            Step::Done(Err(e)) => Step::Done(Err(e)),
         }
     }
 
@@ -259,6 +253,7 @@ impl Machine for Unlock {
 
     ghost resume = { resume_unlock };
 
+    #[tactic(auto, using(hardware::proofs::Laws::then_said))]
     fn next(self, regs: Regs, reply: Reply) -> Step<Action, Unlock, Result<(), Error>> {
         match self {
             Unlock::Sync(s) => Unlock::after_sync(regs, s.next(regs.sync, Lock::REGSMP, reply)),

@@ -1,6 +1,6 @@
 // `release_bits` of sync.rs, suspended at an action.
 ghost use Rattle.std.specs.Prelude.{◌≡◌, false};
-ghost use Rattle.reference.specs.Sync.{release_bits_with};
+ghost use Rattle.reference.specs.Sync.{release_bits_locked, release_bits_with};
 ghost use Rattle.sync.specs.Lock.{told_clear, told_lock, told_unlock};
 ghost use Rattle.sync.specs.Bits.{told_mux, resume_release, told_release, release_after_mux, release_after_lock, release_after_clear, release_after_unlock, release_settle};
 
@@ -37,11 +37,17 @@ impl ReleaseBits {
     {
         match step {
             Step::Ask(a, s) => Step::Ask(a, ReleaseBits::Switching(s)),
-            Step::Done(r) => match r {
-                Ok(()) => ReleaseBits::after_lock(giving, Lock::start(giving.regs)),
-                Err(e) => Step::Done(Err(e)),
-            },
+            Step::Done(Ok(())) => ReleaseBits::locking(giving),
+            Step::Done(Err(e)) => Step::Done(Err(e)),
         }
+    }
+
+    // The mux is back, or there is none.
+    #[tactic(auto, using(hardware::proofs::Laws::then_said))]
+    fn locking(giving: Giving) -> Step<Action, ReleaseBits, Result<(), Error>>
+        ensures { told_release giving result ≡ release_bits_locked giving.regs giving.sw giving.micros }
+    {
+        ReleaseBits::after_lock(giving, Lock::start(giving.regs))
     }
 
     fn after_lock(
@@ -52,13 +58,11 @@ impl ReleaseBits {
     {
         match step {
             Step::Ask(a, s) => Step::Ask(a, ReleaseBits::Locking(s)),
-            Step::Done(r) => match r {
-                Ok(()) => ReleaseBits::after_clear(
-                    giving,
-                    Clear::start(giving.regs.sync, giving.sw),
-                ),
-                Err(e) => Step::Done(Err(e)),
-            },
+            Step::Done(Ok(())) => ReleaseBits::after_clear(
+                giving,
+                Clear::start(giving.regs.sync, giving.sw),
+            ),
+            Step::Done(Err(e)) => Step::Done(Err(e)),
         }
     }
 
@@ -87,10 +91,8 @@ impl ReleaseBits {
     {
         match step {
             Step::Ask(a, s) => Step::Ask(a, ReleaseBits::Unlocking(cleared, s)),
-            Step::Done(r) => match r {
-                Ok(()) => ReleaseBits::settle(giving, cleared),
-                Err(e) => Step::Done(Err(e)),
-            },
+            Step::Done(Ok(())) => ReleaseBits::settle(giving, cleared),
+            Step::Done(Err(e)) => Step::Done(Err(e)),
         }
     }
 
@@ -112,7 +114,7 @@ impl ReleaseBits {
         if mux {
             ReleaseBits::after_mux(giving, SetMux::start(false))
         } else {
-            ReleaseBits::after_lock(giving, Lock::start(giving.regs))
+            ReleaseBits::locking(giving)
         }
     }
 }
@@ -124,6 +126,7 @@ impl Machine for ReleaseBits {
 
     ghost resume = { resume_release };
 
+    #[tactic(auto, using(hardware::proofs::Laws::then_said))]
     fn next(self, giving: Giving, reply: Reply) -> Step<Action, ReleaseBits, Result<(), Error>> {
         match self {
             ReleaseBits::Switching(s) => ReleaseBits::after_mux(giving, s.next(false, reply)),
@@ -151,14 +154,16 @@ impl Runs for ReleaseBits {
         replies: &[u32],
         t: &mut [u32],
     ) -> Step<Action, ReleaseBits, Result<(), Error>> {
-        if let ReleaseBits::Locking(s) = self {
-            let step = run(s, a, giving.regs, h, replies, t);
-            return ReleaseBits::after_lock(giving, step);
+        match self {
+            ReleaseBits::Locking(s) => {
+                let step = run(s, a, giving.regs, h, replies, t);
+                ReleaseBits::after_lock(giving, step)
+            }
+            ReleaseBits::Unlocking(cleared, s) => {
+                let step = run(s, a, giving.regs, h, replies, t);
+                ReleaseBits::after_unlock(giving, cleared, step)
+            }
+            _ => single(self, a, giving, h, replies, t),
         }
-        if let ReleaseBits::Unlocking(cleared, s) = self {
-            let step = run(s, a, giving.regs, h, replies, t);
-            return ReleaseBits::after_unlock(giving, cleared, step);
-        }
-        single(self, a, giving, h, replies, t)
     }
 }

@@ -13,6 +13,9 @@ pub enum SetMux {
 }
 
 impl SetMux {
+    // ESDP: the software-definable pin that switches the mux
+    pub const MUX: u32 = 0x2;
+
     pub fn start(on: bool) -> Step<Action, SetMux, Result<(), Error>>
         ensures { told_mux on result ≡ set_mux on }
     {
@@ -25,11 +28,12 @@ impl SetMux {
         match word {
             Err(e) => Step::Done(Err(e)),
             Ok(esdp) => {
-                if on {
-                    Step::Ask(Action::Write(Port::ESDP, esdp | 2), SetMux::Writing)
+                let value = if on {
+                    esdp | SetMux::MUX
                 } else {
-                    Step::Ask(Action::Write(Port::ESDP, esdp & !2), SetMux::Writing)
-                }
+                    esdp & !SetMux::MUX
+                };
+                Step::Ask(Action::Write(Port::ESDP, value), SetMux::Writing)
             }
         }
     }

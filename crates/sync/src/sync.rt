@@ -27,16 +27,9 @@ pub enum Sync {
 fn mux(port: Port, mask: u32) -> bool
     ensures { mux port mask ≡ result }
 {
-    let family = port.family;
-    match family {
+    match port.family {
         Family::X553 => false,
-        Family::X552 => {
-            if port.lan == 1 {
-                mask & Bits::I2C != 0
-            } else {
-                false
-            }
-        }
+        Family::X552 => port.lan == 1 && mask & Bits::I2C != 0,
     }
 }
 
@@ -45,7 +38,11 @@ fn mux(port: Port, mask: u32) -> bool
 fn settle(mask: u32) -> u32
     ensures { settle mask ≡ result }
 {
-    if mask & 0x406 == 0 { 2000 } else { 10 }
+    if mask & (Bits::PHY0 | Bits::PHY1 | Bits::SW_MNG) == 0 {
+        2000
+    } else {
+        10
+    }
 }
 
 impl Sync {
@@ -80,10 +77,9 @@ impl Sync {
     fn given(regs: Regs, mask: u32) -> Giving
         ensures { given regs mask ≡ result }
     {
-        let want = Bits::from(mask);
         Giving {
             regs,
-            sw: want.sw,
+            sw: Bits::from(mask).sw,
             micros: settle(mask),
         }
     }
@@ -107,10 +103,9 @@ impl Sync {
     pub fn first(port: Port, mask: u32) -> Sync
         ensures { acquire_bits port mask ≡ ask (Read (regs port.family).swsm) (λ x. resume_sync mask result x) }
     {
-        let family = port.family;
         let lock = Lock::Smbi(Smbi::Reading(1999));
         Sync::Take(
-            Regs::from(family),
+            Regs::from(port.family),
             mux(port, mask),
             AcquireBits::Locking(999, lock),
         )
@@ -120,8 +115,7 @@ impl Sync {
     pub fn take(port: Port, mask: u32) -> Step<Action, Sync, Result<(), Error>>
         ensures { told_sync mask result ≡ acquire_bits port mask }
     {
-        let family = port.family;
-        let regs = Regs::from(family);
+        let regs = Regs::from(port.family);
         Step::Ask(Action::Read(regs.swsm), Sync::first(port, mask))
     }
 
@@ -130,8 +124,7 @@ impl Sync {
     pub fn give(port: Port, mask: u32) -> Step<Action, Sync, Result<(), Error>>
         ensures { told_sync mask result ≡ release_bits port mask }
     {
-        let family = port.family;
-        let regs = Regs::from(family);
+        let regs = Regs::from(port.family);
         let giving = Sync::given(regs, mask);
         Sync::giving(regs, mask, ReleaseBits::start(giving, mux(port, mask)))
     }

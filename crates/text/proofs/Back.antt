@@ -78,15 +78,6 @@ decimal_said (suc k) v h = go (ltb v 10) refl (decimal_said k (v / 10) (omega (a
 pub decimal_back : (v : ℕ) → v < 10 ^ 20 → said 0 (decimal_digits v) ≡ v
 decimal_back v h = decimal_said 20 v h
 
-pub length_decimal : (k v : ℕ) → length (decimal k v) ≤ k
-unfolding decimal
-length_decimal zero v = omega arith
-length_decimal (suc k) v = go (ltb v 10) refl (length_decimal k (v / 10))
-  where
-    go : (b : Bool) → ltb v 10 ≡ b → length (decimal k (v / 10)) ≤ k → length (decimal (suc k) v) ≤ suc k
-    go true e i = rw e (omega arith)
-    go false e i = rw e (simp length-append (omega arith))
-
 some_digit : (k v : ℕ) → 0 < v → v < 10 ^ k → 0 < length (decimal k v)
 unfolding decimal
 some_digit zero v h l = let z : ⊥ = omega arith in absurd z

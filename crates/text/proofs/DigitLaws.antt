@@ -1,9 +1,8 @@
 -- A turn of writing digits, from the last one on
-use Prim.Native.Nat.{ℕ, zero, suc, ◌+◌, ◌-◌, ◌/◌, ◌%◌, ◌^◌, ◌≤◌, ◌<◌}
+use Prim.Native.Nat.{ℕ, zero, suc, ◌+◌, ◌-◌, ◌/◌, ◌%◌, ◌≤◌, ◌<◌}
 use mathlib.Core.Path.{◌≡◌, refl, ap, sym, ◌∙◌}
 use mathlib.Core.List.{List, [], ◌∷◌, ◌++◌}
 use native.Mathlib.Omega.{arith}
-use native.Mathlib.Nat.{pow-suc}
 use borrow.Author.Tests.{lt-ltb, le-ltb}
 use lib.ListN.{length, drop, set, length-set}
 use lib.Seq.{drop-cons, get_or-set_same, drop-set-lt, append_snoc}
@@ -34,6 +33,9 @@ module _ (text : List ℕ) (rest j : ℕ) (within : j < length text) where
   unfolding decimal
   decimal_first h = rw (lt-ltb rest 10 h) (put_front [] text j (48 + rest) within)
 
+pub still : (text : List ℕ) (j g : ℕ) → length (set text j g) ≡ length text
+still text j g = length-set text j g
+
 -- the same by the code's count of the places left
 module _ (text : List ℕ) (rest i g : ℕ) (more : 0 < i) (within : i ≤ length text) where
   pub hex_turn : glyph (rest % 16) ≡ g → last_hex i rest ++ drop i text ≡ last_hex (i - 1) (rest / 16) ++ drop (i - 1) (set text (i - 1) g)
@@ -42,19 +44,17 @@ module _ (text : List ℕ) (rest i g : ℕ) (more : 0 < i) (within : i ≤ lengt
   pub decimal_turn : glyph (rest % 10) ≡ g → 10 ≤ rest → decimal i rest ++ drop i text ≡ decimal (i - 1) (rest / 10) ++ drop (i - 1) (set text (i - 1) g)
   decimal_turn e h = rw (← e) (ap (λ (n : ℕ). decimal n rest ++ drop n text) (one_less i more) ∙ decimal_front text rest (i - 1) (omega arith) h)
 
-  pub decimal_last : glyph rest ≡ g → rest < 10 → decimal i rest ++ drop i text ≡ drop (i - 1) (set text (i - 1) g)
-  decimal_last e h = rw (← e) (ap (λ (n : ℕ). decimal n rest ++ drop n text) (one_less i more) ∙ decimal_first text rest (i - 1) (omega arith) h)
+  pub decimal_last : glyph (rest % 10) ≡ g → rest < 10 → decimal i rest ++ drop i text ≡ drop (i - 1) (set text (i - 1) g)
+  decimal_last e h =
+      let all : rest % 10 ≡ rest = omega arith in
+      rw (← e, all) (ap (λ (n : ℕ). decimal n rest ++ drop n text) (one_less i more) ∙ decimal_first text rest (i - 1) (omega arith) h)
 
 pub hex_done : (text : List ℕ) (rest i : ℕ) → i ≤ 0 → last_hex i rest ++ drop i text ≡ text
 unfolding last_hex
 hex_done text rest zero h = refl
 hex_done text rest (suc i) h = let z : ⊥ = omega arith in absurd z
 
--- a number of two digits or more has room for two
-pub two_places : (i rest : ℕ) → 10 ≤ rest → rest < 10 ^ i → 1 < i
-two_places zero rest h k = let z : ⊥ = omega arith in absurd z
-two_places (suc zero) rest h k = let z : ⊥ = omega arith in absurd z
-two_places (suc (suc i)) rest h k = omega arith
-
-pub tenth : (i rest : ℕ) → 0 < i → rest < 10 ^ i → rest / 10 < 10 ^ (i - 1)
-tenth i rest h k = omega (arith, ap (λ (n : ℕ). 10 ^ n) (one_less i h), pow-suc 10 (i - 1))
+pub decimal_done : (text : List ℕ) (rest i : ℕ) → i ≤ 0 → decimal i rest ++ drop i text ≡ text
+unfolding decimal
+decimal_done text rest zero h = refl
+decimal_done text rest (suc i) h = let z : ⊥ = omega arith in absurd z

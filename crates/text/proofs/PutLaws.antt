@@ -1,18 +1,16 @@
 -- Where bytes fit or not, and what writing them leaves
-use Prim.Native.Nat.{ℕ, suc, ◌+◌, ◌≤◌, ◌<◌}
-use mathlib.Core.Path.{◌≡◌, refl, ap, ap₂, sym, ◌∙◌}
+use Prim.Native.Nat.{ℕ, ◌+◌, ◌≤◌, ◌<◌}
+use mathlib.Core.Path.{◌≡◌, refl, ap, sym, ◌∙◌}
 use mathlib.Core.Bool.{Bool, true, false, cond}
-use mathlib.Core.List.{List, [], ◌∷◌, ◌++◌, append_assoc}
+use mathlib.Core.List.{List, ◌++◌, append_assoc}
 use native.Mathlib.Omega.{arith}
-use native.Mathlib.Nat.{add-zero}
 use borrow.Author.Tests.{le-leb, lt-leb, leb-true}
 use lib.Dec.{leb}
-use lib.ListN.{length, take, drop, set, length-append}
-use lib.Seq.{sets, length-sets, sets-eq, length-take-le, take_at}
+use lib.ListN.{length, take, drop, length-append}
+use lib.Seq.{sets, sets-eq, length-take-le, take_at, drop-drop}
 use Rattle.text.specs.Written.{written}
 use Rattle.std.proofs.Common.{Option, Some, None}
 use borrow.Rule.Slice.PartMut.{put_mid}
-use lib.Seq.{drop-drop}
 
 module _ (out : List ℕ) (at : ℕ) (bytes : List ℕ) where
   pub written_full : length out < at + length bytes → written out at bytes ≡ (None, out)
@@ -35,13 +33,7 @@ module _ (out : List ℕ) (at : ℕ) (bytes : List ℕ) where
       ∙ rw (e, f) (ap (λ (l : List ℕ). take at out ++ (bytes ++ l)) (sym (drop-drop (length bytes) at out)))
       )
 
--- what a caller learns of a success, and of two in a row
-pub sets_append : (xs ys l : List ℕ) (i : ℕ) → sets (sets l i xs) (i + length xs) ys ≡ sets l i (xs ++ ys)
-sets_append [] ys l i = ap (λ (n : ℕ). sets l n ys) (add-zero i)
-sets_append (x ∷ xs) ys l i =
-    ap (λ (n : ℕ). sets (sets (set l i x) (suc i) xs) n ys) (let e : i + suc (length xs) ≡ suc i + length xs = omega arith in e)
-    ∙ sets_append xs ys (set l i x) (suc i)
-
+-- what a caller learns of a success
 pub record Fitted (out : List ℕ) (at : ℕ) (bytes : List ℕ) (end : ℕ) (new : List ℕ) : Type 0 where
   pub place : end ≡ at + length bytes
   pub within : end ≤ length out
@@ -60,18 +52,6 @@ fitted out at bytes end new e = go (leb (at + length bytes) (length out)) refl e
         record { place = place; within = omega (arith, leb-true (at + length bytes) (length out) t); stored = sym (ap (λ (p : Option ℕ × List ℕ). p.1) e) }
     go false t e =
         let full : None ≡ Some end = ap (λ (p : Option ℕ × List ℕ). p.0) e in cc
-
--- writing on from where the last bytes ended writes them all
-pub written_on : (out : List ℕ) (at : ℕ) (xs ys : List ℕ) (end : ℕ) (mid : List ℕ) (last : ℕ) (new : List ℕ)
-    → written out at xs ≡ (Some end, mid) → written mid end ys ≡ (Some last, new) → written out at (xs ++ ys) ≡ (Some last, new)
-written_on out at xs ys end mid last new e f =
-    let a = fitted out at xs end mid e in
-    let b = fitted mid end ys last new f in
-    let same : length mid ≡ length out = ap length a.stored ∙ length-sets out at xs in
-    let place : at + length (xs ++ ys) ≡ last = omega (arith, length-append xs ys) in
-    let stored : sets out at (xs ++ ys) ≡ new =
-    sym (b.stored ∙ ap₂ (λ (m : List ℕ) (n : ℕ). sets m n ys) a.stored a.place ∙ sets_append xs ys out at) in
-    written_fits out at (xs ++ ys) (omega arith) ∙ ap₂ (λ (n : ℕ) (l : List ℕ). (Some n, l)) place stored
 
 -- what stands before the place is kept, and the bytes follow it
 pub written_front : (out : List ℕ) (at : ℕ) (bytes : List ℕ) (end : ℕ) (new : List ℕ)

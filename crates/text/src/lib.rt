@@ -17,7 +17,7 @@ fn first_newline(text: &[u8]) -> Option<usize>
 }
 
 // The first newline at or after a place.
-#[tactic(auto, using(crate::proofs::LineLaws::newline_past))]
+#[tactic(auto, using(crate::proofs::LineLaws::newline_past, crate::proofs::LineLaws::newline_found))]
 pub fn line_end(text: &[u8], from: usize) -> Option<usize>
     ensures from_value { line_end text.now from ≡ result }
     ensures ahead { Ahead from text.now result }
@@ -61,7 +61,7 @@ fn first_blank(line: &[u8]) -> Option<usize>
 }
 
 // The first word at or after a place. Going on from its end gives all the words.
-#[tactic(auto, using(crate::proofs::WordLaws::no_words))]
+#[tactic(auto, using(crate::proofs::WordLaws::no_words, crate::proofs::WordLaws::no_word, crate::proofs::WordLaws::word_ended, crate::proofs::WordLaws::word_last))]
 pub fn word(line: &[u8], at: usize) -> Option<(usize, usize)>
     ensures line_value { words (drop at line.now) ≡ found line.now result }
     ensures inside { Inside at line.now result }
@@ -148,8 +148,8 @@ fn glyph(d: u8) -> u8
 
 // Eight hexadecimal digits in lower case.
 #[tactic(auto, using(crate::proofs::DigitLaws::hex_turn, crate::proofs::DigitLaws::hex_done))]
-pub fn put_hex(out: &mut [u8], at: usize, v: u32) -> Option<usize>
-    ensures { written out.old at (hex_digits v) ≡ (result, out.new) }
+pub fn hex_digits(v: u32) -> [u8; 8]
+    ensures { hex_digits v ≡ result }
 {
     let mut text = [0u8; 8];
     let mut rest = v;
@@ -157,24 +157,23 @@ pub fn put_hex(out: &mut [u8], at: usize, v: u32) -> Option<usize>
         text[i] = glyph((rest % 16) as u8);
         rest /= 16;
     }
-    put(out, at, &text)
+    text
 }
 
-// Decimal digits, with no zero in front. A u64 has twenty at most.
-#[tactic(auto, using(std::proofs::lemmas::Slice::between_to_end, crate::proofs::DigitLaws::decimal_last))]
-pub fn put_decimal(out: &mut [u8], at: usize, v: u64) -> Option<usize>
-    ensures { written out.old at (decimal_digits v) ≡ (result, out.new) }
+// Decimal digits, with no zero in front: those from the place that comes with them. A u64 has twenty at most.
+#[tactic(auto, using(crate::proofs::DigitLaws::still, crate::proofs::DigitLaws::decimal_turn, crate::proofs::DigitLaws::decimal_last, crate::proofs::DigitLaws::decimal_done))]
+pub fn decimal_digits(v: u64) -> ([u8; 20], usize)
+    ensures place { result.1 ≤ 20 }
+    ensures digits { decimal_digits v ≡ drop result.1 result.0 }
 {
     let mut text = [0u8; 20];
     let mut rest = v;
-    let mut i: usize = 20;
-    // A `while`, since the digits come last first and their count is not known before.
-    while rest >= 10 {
-        i -= 1;
+    for i in (0..20).rev() {
         text[i] = glyph((rest % 10) as u8);
+        if rest < 10 {
+            return (text, i);
+        }
         rest /= 10;
     }
-    i -= 1;
-    text[i] = glyph(rest as u8);
-    put(out, at, &text[i..])
+    (text, 0)
 }

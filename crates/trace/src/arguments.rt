@@ -18,6 +18,7 @@ fn keep(out: &mut [u32], at: usize, v: u32)
 
 // The arguments from a place of the line on, or nothing where one of them is no number. All are counted, and as many are
 // kept as the buffer has places.
+#[tactic(auto, using(lines::proofs::Laws::place, lines::proofs::Laws::found_hex, crate::proofs::ArgumentLaws::none_left, crate::proofs::ArgumentLaws::no_number, crate::proofs::ArgumentLaws::no_value, crate::proofs::ArgumentLaws::one_read, crate::proofs::ArgumentLaws::one_kept))]
 pub fn read(line: &[u8], from: usize, out: &mut [u32]) -> Option<usize>
     ensures line_value { arguments_of (words (drop from line.now)) ≡ result }
     ensures out_after { out.new ≡ sets out.old 0 (numbers (words (drop from line.now))) }

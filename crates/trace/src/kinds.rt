@@ -40,10 +40,8 @@ pub fn half(args: &[u32]) -> Option<(u16, &[u32])>
     ensures { half_of args.now ≡ option_map (λ p. (p.0, p.1.now)) result }
 {
     let (v, rest) = word(args)?;
-    if v > 0xffff {
-        return None;
-    }
-    Some((v as u16, rest))
+    let half = u16::try_from(v).ok()?;
+    Some((half, rest))
 }
 
 // 0 or 1.

@@ -100,6 +100,7 @@ fn named_from(name: &[u8], buffer: &[u32], n: usize) -> Option<(Operation, usize
 
 // The argument words are left in the buffer. It has a place more than a host block may have words, so that a block that
 // is too long is seen to be.
+#[tactic(auto, using(text::proofs::PartLaws::part_slice, lines::proofs::Laws::place, crate::proofs::OperationLaws::kept, crate::proofs::OperationLaws::not_read, crate::proofs::OperationLaws::are_read))]
 pub fn operation_line(line: &[u8], args: &mut [u32; 17]) -> Option<(Operation, usize)>
     ensures line_value { operation_of (words line.now) ≡ result }
     ensures args_after { args.new ≡ sets args.old 0 (numbers (drop 1 (words line.now))) }

@@ -36,10 +36,7 @@ pub struct Polled {
 fn is_forced(forced: Option<u16>, status: u16) -> bool
     ensures { is_forced forced status ≡ result }
 {
-    match forced {
-        None => false,
-        Some(before) => before == status,
-    }
+    forced == Some(status)
 }
 
 impl Poll {
@@ -59,9 +56,8 @@ impl Poll {
     fn same(watch: Watch, port: Port, seen: Copper) -> Step<Job, Poll, Result<Polled, Error>>
         ensures { (b : List ℕ) → told_poll port watch b result ≡ same_of watch seen }
     {
-        let forced = watch.forced;
         let left = Left {
-            forced,
+            forced: watch.forced,
             reforced: watch.reforced,
         };
         Step::Done(Ok(Polled { copper: seen, left }))
@@ -83,7 +79,7 @@ impl Poll {
             Step::Done(Ok(_)) => {
                 let left = Left {
                     forced: Some(status),
-                    reforced: std::num::wrapping_add_u32(watch.reforced, 1),
+                    reforced: watch.reforced.wrapping_add(1),
                 };
                 let copper = Copper::Up { megabits };
                 Step::Done(Ok(Polled { copper, left }))
@@ -100,8 +96,7 @@ impl Poll {
     ) -> Step<Job, Poll, Result<Polled, Error>>
         ensures { (b : List ℕ) → told_poll port watch b result ≡ force_of port watch status megabits }
     {
-        let internal = watch.internal;
-        match internal {
+        match watch.internal {
             Internal::Kr => {
                 let step = Sequence::start(KrPlace::Advertise(true, true), port);
                 Poll::after_force(watch, port, status, megabits, step)
@@ -117,11 +112,10 @@ impl Poll {
     fn speed(watch: Watch, port: Port, status: u16) -> Step<Job, Poll, Result<Polled, Error>>
         ensures { (b : List ℕ) → told_poll port watch b result ≡ speed_of port watch status }
     {
-        let forced = watch.forced;
         match copper(status as u32) {
             None => Poll::same(watch, port, Copper::Invalid { status }),
             Some(megabits) => {
-                if is_forced(forced, status) {
+                if is_forced(watch.forced, status) {
                     Poll::same(watch, port, Copper::Up { megabits })
                 } else {
                     Poll::force(watch, port, status, megabits)
@@ -142,16 +136,12 @@ impl Poll {
         match step {
             Step::Ask(job, s) => Step::Ask(job, Poll::Second(status, s)),
             Step::Done(Err(e)) => Step::Done(Err(e)),
-            Step::Done(Ok(up)) => {
-                if up {
-                    Poll::speed(watch, port, status)
-                } else {
-                    Poll::down(watch, port)
-                }
-            }
+            Step::Done(Ok(true)) => Poll::speed(watch, port, status),
+            Step::Done(Ok(false)) => Poll::down(watch, port),
         }
     }
 
+    #[tactic(auto, using(hardware::proofs::Laws::then_assoc))]
     fn after_status(
         watch: Watch,
         port: Port,
@@ -179,17 +169,14 @@ impl Poll {
         match step {
             Step::Ask(job, s) => Step::Ask(job, Poll::First(s)),
             Step::Done(Err(e)) => Step::Done(Err(e)),
-            Step::Done(Ok(up)) => {
-                if up {
-                    Step::Ask(Job::ReadReg(watch.phy, Register::AN, 0xc800), Poll::Status)
-                } else {
-                    Poll::down(watch, port)
-                }
+            Step::Done(Ok(true)) => {
+                Step::Ask(Job::ReadReg(watch.phy, Register::AN, 0xc800), Poll::Status)
             }
+            Step::Done(Ok(false)) => Poll::down(watch, port),
         }
     }
 
-    #[tactic(auto, unfolding(reference::specs::Watch::poll))]
+    #[tactic(auto, using(hardware::proofs::Laws::then_assoc), unfolding(reference::specs::Watch::poll))]
     pub fn start(watch: Watch, port: Port) -> Step<Job, Poll, Result<Polled, Error>>
         ensures { (b : List ℕ) → told_poll port watch b result ≡ poll_of port watch }
     {

@@ -9,7 +9,7 @@ pub fn flex_mng(i: usize) -> u32
     ensures { flex_mng i ≡ result }
 {
     let low = (i % 0x4000_0000) as u32;
-    std::num::wrapping_add_u32(FLEX_MNG, 4 * low)
+    FLEX_MNG.wrapping_add(4 * low)
 }
 
 #[tactic(auto, unfolding(crate::specs::Hostif::swap_bytes))]

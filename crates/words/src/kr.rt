@@ -8,7 +8,7 @@ pub fn krm(lan: u32, port0: u32) -> u32
     ensures { krm lan port0 ≡ result }
 {
     if lan == 1 {
-        std::num::wrapping_add_u32(port0, 0x4000)
+        port0.wrapping_add(0x4000)
     } else {
         port0
     }

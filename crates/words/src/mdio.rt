@@ -24,12 +24,12 @@ impl Command {
 impl From<Command> for u32 {
     ghost from_gives = { λ c word. command c ≡ word };
 
+    #[tactic(auto, using(crate::proofs::Theorems::Mdio::command_going, crate::proofs::Theorems::Mdio::command_not_going))]
     fn from(c: Command) -> u32 {
-        let register = c.register as u32;
         let device = (c.device % 32) as u32;
         let phy = (c.phy % 32) as u32;
         let operation = (c.operation % 4) as u32;
-        let word = register | device << 16 | phy << 21 | operation << 26;
+        let word = address(phy, device, c.register) | operation << 26;
         if c.go { word | Command::GO } else { word }
     }
 }

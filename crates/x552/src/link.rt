@@ -8,7 +8,7 @@ ghost use Rattle.x552.specs.Link.{asked_of, advertise_then, linking_then, links_
 
 use access::access::Job;
 use answers::{CopperSetup, Internal, Speeds, X557};
-use hardware::{Error, Port, Step};
+use hardware::{Error, Managed, Port, Step};
 use kr::sequence::{KrPlace, Sequence};
 use phy::abilities::speeds_of;
 use phy::advertise::{Advertise, Advertised};
@@ -26,13 +26,6 @@ pub enum CopperLink {
     Advertise(Speeds, Advertise),
 }
 
-// The call's arguments: the veto, and what was prepared.
-#[derive(Clone, Copy)]
-pub struct Copper {
-    pub veto: bool,
-    pub x557: X557,
-}
-
 // 100M is not advertised.
 #[tactic(auto, unfolding(reference::specs::X552::without100))]
 fn without_100(s: Speeds) -> Speeds
@@ -45,68 +38,63 @@ fn without_100(s: Speeds) -> Speeds
     }
 }
 
-impl Copper {
-    fn asked(self, speeds: Speeds) -> Advertised
-        ensures { asked_of self speeds ≡ result }
-    {
-        let x557 = self.x557;
-        Advertised {
-            phy: x557.phy as u32,
-            speeds,
-            nbase: None,
-            veto: self.veto,
-        }
+// What the X557 is asked to advertise.
+fn asked(managed: Managed, x557: X557, speeds: Speeds) -> Advertised
+    ensures { asked_of managed x557 speeds ≡ result }
+{
+    Advertised {
+        phy: x557.phy as u32,
+        speeds,
+        nbase: None,
+        veto: managed.veto,
     }
 }
 
 impl CopperLink {
     #[tactic(auto, using(hardware::proofs::Laws::then_assoc))]
     fn after_advertise(
-        c: Copper,
-        port: Port,
+        managed: Managed,
+        x557: X557,
         speeds: Speeds,
         step: Step<Job, Advertise, Result<bool, Error>>,
     ) -> Step<Job, CopperLink, Result<CopperSetup, Error>>
-        ensures { (b : List ℕ) → told_link port c b result ≡ advertise_then c speeds (told_advertise port (asked_of c speeds) b step) }
+        ensures { (b : List ℕ) → told_link managed x557 b result ≡ advertise_then x557 speeds (told_advertise managed.port (asked_of managed x557 speeds) b step) }
     {
         match step {
             Step::Ask(job, s) => Step::Ask(job, CopperLink::Advertise(speeds, s)),
             Step::Done(Err(e)) => Step::Done(Err(e)),
-            Step::Done(Ok(restarted)) => {
-                let x557 = c.x557;
-                let advertised = speeds;
-                Step::Done(Ok(CopperSetup {
-                    x557,
-                    advertised,
-                    restarted,
-                }))
-            }
+            Step::Done(Ok(restarted)) => Step::Done(Ok(CopperSetup {
+                x557,
+                advertised: speeds,
+                restarted,
+            })),
         }
     }
 
+    #[tactic(auto, using(hardware::proofs::Laws::then_assoc))]
     fn advertise(
-        c: Copper,
-        port: Port,
+        managed: Managed,
+        x557: X557,
         speeds: Speeds,
     ) -> Step<Job, CopperLink, Result<CopperSetup, Error>>
-        ensures { (b : List ℕ) → told_link port c b result ≡ copper_advertise port c.veto c.x557 speeds }
+        ensures { (b : List ℕ) → told_link managed x557 b result ≡ copper_advertise managed.port managed.veto x557 speeds }
     {
-        let step = Advertise::start(c.asked(speeds), port);
-        CopperLink::after_advertise(c, port, speeds, step)
+        let step = Advertise::start(asked(managed, x557, speeds), managed.port);
+        CopperLink::after_advertise(managed, x557, speeds, step)
     }
 
     // Ten waits with no link are no error.
     #[tactic(auto, using(hardware::proofs::Laws::then_assoc, hardware::proofs::Laws::times_more, hardware::proofs::Laws::times_none))]
     fn again(
-        c: Copper,
-        port: Port,
+        managed: Managed,
+        x557: X557,
         speeds: Speeds,
         left: u32,
     ) -> Step<Job, CopperLink, Result<CopperSetup, Error>>
-        ensures { (b : List ℕ) → told_link port c b result ≡ copper_times port c.veto c.x557 speeds left }
+        ensures { (b : List ℕ) → told_link managed x557 b result ≡ copper_times managed.port managed.veto x557 speeds left }
     {
         if left == 0 {
-            CopperLink::advertise(c, port, speeds)
+            CopperLink::advertise(managed, x557, speeds)
         } else {
             Step::Ask(Job::Wait(100_000), CopperLink::Waiting(speeds, left - 1))
         }
@@ -114,84 +102,82 @@ impl CopperLink {
 
     #[tactic(auto, using(hardware::proofs::Laws::then_assoc))]
     fn after_linking(
-        c: Copper,
-        port: Port,
+        managed: Managed,
+        x557: X557,
         speeds: Speeds,
         left: u32,
         step: Step<Job, AnLink, Result<bool, Error>>,
     ) -> Step<Job, CopperLink, Result<CopperSetup, Error>>
-        ensures { (b : List ℕ) → told_link port c b result ≡ linking_then port c speeds left (told_an_link port c.x557.phy b step) }
+        ensures { (b : List ℕ) → told_link managed x557 b result ≡ linking_then managed x557 speeds left (told_an_link managed.port x557.phy b step) }
     {
         match step {
             Step::Ask(job, s) => Step::Ask(job, CopperLink::Linking(speeds, left, s)),
             Step::Done(Err(e)) => Step::Done(Err(e)),
             Step::Done(Ok(up)) => {
                 if up {
-                    CopperLink::advertise(c, port, speeds)
+                    CopperLink::advertise(managed, x557, speeds)
                 } else {
-                    CopperLink::again(c, port, speeds, left)
+                    CopperLink::again(managed, x557, speeds, left)
                 }
             }
         }
     }
 
     // The internal link first: the X557 is asked only where LINKS says that it is up.
+    #[tactic(auto, using(hardware::proofs::Laws::then_assoc))]
     fn links(
-        c: Copper,
-        port: Port,
+        managed: Managed,
+        x557: X557,
         speeds: Speeds,
         left: u32,
         links: u32,
     ) -> Step<Job, CopperLink, Result<CopperSetup, Error>>
-        ensures { (b : List ℕ) → told_link port c b result ≡ links_then port c speeds left links }
+        ensures { (b : List ℕ) → told_link managed x557 b result ≡ links_then managed x557 speeds left links }
     {
         if links & 0x4000_0000 == 0 {
-            return CopperLink::again(c, port, speeds, left);
+            return CopperLink::again(managed, x557, speeds, left);
         }
-        let x557 = c.x557;
-        let step = AnLink::start(x557.phy as u32, port);
-        CopperLink::after_linking(c, port, speeds, left, step)
+        let step = AnLink::start(x557.phy as u32, managed.port);
+        CopperLink::after_linking(managed, x557, speeds, left, step)
     }
 
     #[tactic(auto, using(hardware::proofs::Laws::then_assoc))]
     fn after_ixfi(
-        c: Copper,
-        port: Port,
+        managed: Managed,
+        x557: X557,
         speeds: Speeds,
         step: Step<Job, Sequence, Result<u32, Error>>,
     ) -> Step<Job, CopperLink, Result<CopperSetup, Error>>
-        ensures { (b : List ℕ) → told_link port c b result ≡ ixfi_then port c speeds (told_sequence port b step) }
+        ensures { (b : List ℕ) → told_link managed x557 b result ≡ ixfi_then managed x557 speeds (told_sequence managed.port b step) }
     {
         match step {
             Step::Ask(job, s) => Step::Ask(job, CopperLink::Ixfi(speeds, s)),
             Step::Done(Err(e)) => Step::Done(Err(e)),
-            Step::Done(Ok(_)) => CopperLink::again(c, port, speeds, 10),
+            Step::Done(Ok(_)) => CopperLink::again(managed, x557, speeds, 10),
         }
     }
 
     #[tactic(auto, using(hardware::proofs::Laws::then_assoc), unfolding(reference::specs::X552::ixfi))]
     fn able(
-        c: Copper,
-        port: Port,
+        managed: Managed,
+        x557: X557,
         speeds: Speeds,
     ) -> Step<Job, CopperLink, Result<CopperSetup, Error>>
-        ensures { (b : List ℕ) → told_link port c b result ≡ copper_able 10 port c.veto c.x557 speeds }
+        ensures { (b : List ℕ) → told_link managed x557 b result ≡ copper_able 10 managed.port managed.veto x557 speeds }
     {
-        let x557 = c.x557;
-        let internal = x557.internal;
-        match internal {
-            Internal::Kr => CopperLink::advertise(c, port, speeds),
+        match x557.internal {
+            Internal::Kr => CopperLink::advertise(managed, x557, speeds),
             Internal::Ixfi => {
-                let step = Sequence::start(KrPlace::Force(speeds.g10), port);
-                CopperLink::after_ixfi(c, port, speeds, step)
+                let step = Sequence::start(KrPlace::Force(speeds.g10), managed.port);
+                CopperLink::after_ixfi(managed, x557, speeds, step)
             }
         }
     }
 
-    pub fn start(c: Copper, port: Port) -> Step<Job, CopperLink, Result<CopperSetup, Error>>
-        ensures { (b : List ℕ) → told_link port c b result ≡ copper_link 10 port c.veto c.x557 }
+    #[tactic(auto, using(hardware::proofs::Laws::then_assoc, reference::proofs::Laws::bind_assoc), unfolding(reference::specs::X552::copper_link, reference::specs::Mdio::abilities))]
+    pub fn start(managed: Managed, x557: X557) -> Step<Job, CopperLink, Result<CopperSetup, Error>>
+        ensures { (b : List ℕ) → told_link managed x557 b result ≡ copper_link 10 managed.port managed.veto x557 }
     {
-        let x557 = c.x557;
         Step::Ask(
             Job::ReadReg(x557.phy as u32, Register::PMA, 4),
             CopperLink::Abilities,
@@ -199,26 +185,26 @@ impl CopperLink {
     }
 
     fn after_abilities(
-        c: Copper,
-        port: Port,
+        managed: Managed,
+        x557: X557,
         got: Result<u32, Error>,
     ) -> Step<Job, CopperLink, Result<CopperSetup, Error>>
-        ensures { (b : List ℕ) → told_link port c b result ≡ got_abilities port c got }
+        ensures { (b : List ℕ) → told_link managed x557 b result ≡ got_abilities managed x557 got }
     {
         match got {
             Err(e) => Step::Done(Err(e)),
-            Ok(v) => CopperLink::able(c, port, without_100(speeds_of(v))),
+            Ok(v) => CopperLink::able(managed, x557, without_100(speeds_of(v))),
         }
     }
 
     fn after_wait(
-        c: Copper,
-        port: Port,
+        managed: Managed,
+        x557: X557,
         speeds: Speeds,
         left: u32,
         got: Result<u32, Error>,
     ) -> Step<Job, CopperLink, Result<CopperSetup, Error>>
-        ensures { (b : List ℕ) → told_link port c b result ≡ got_wait port c speeds left got }
+        ensures { (b : List ℕ) → told_link managed x557 b result ≡ got_wait managed x557 speeds left got }
     {
         match got {
             Err(e) => Step::Done(Err(e)),
@@ -227,45 +213,48 @@ impl CopperLink {
     }
 
     fn after_links(
-        c: Copper,
-        port: Port,
+        managed: Managed,
+        x557: X557,
         speeds: Speeds,
         left: u32,
         got: Result<u32, Error>,
     ) -> Step<Job, CopperLink, Result<CopperSetup, Error>>
-        ensures { (b : List ℕ) → told_link port c b result ≡ got_links port c speeds left got }
+        ensures { (b : List ℕ) → told_link managed x557 b result ≡ got_links managed x557 speeds left got }
     {
         match got {
             Err(e) => Step::Done(Err(e)),
-            Ok(v) => CopperLink::links(c, port, speeds, left, v),
+            Ok(v) => CopperLink::links(managed, x557, speeds, left, v),
         }
     }
 
     #[tactic(auto, using(hardware::proofs::Laws::then_assoc))]
     pub fn next(
         self,
-        c: Copper,
-        port: Port,
+        managed: Managed,
+        x557: X557,
         got: Result<u32, Error>,
     ) -> Step<Job, CopperLink, Result<CopperSetup, Error>>
-        ensures { (b : List ℕ) → told_link port c b result ≡ resume_link port c self got }
+        ensures { (b : List ℕ) → told_link managed x557 b result ≡ resume_link managed x557 self got }
     {
         match self {
-            CopperLink::Abilities => CopperLink::after_abilities(c, port, got),
+            CopperLink::Abilities => CopperLink::after_abilities(managed, x557, got),
             CopperLink::Ixfi(speeds, s) => {
-                let step = s.next(port, got);
-                CopperLink::after_ixfi(c, port, speeds, step)
+                let step = s.next(managed.port, got);
+                CopperLink::after_ixfi(managed, x557, speeds, step)
             }
-            CopperLink::Waiting(speeds, left) => CopperLink::after_wait(c, port, speeds, left, got),
-            CopperLink::Links(speeds, left) => CopperLink::after_links(c, port, speeds, left, got),
+            CopperLink::Waiting(speeds, left) => CopperLink::after_wait(
+                managed, x557, speeds, left, got,
+            ),
+            CopperLink::Links(speeds, left) => CopperLink::after_links(
+                managed, x557, speeds, left, got,
+            ),
             CopperLink::Linking(speeds, left, s) => {
-                let x557 = c.x557;
-                let step = s.next(x557.phy as u32, port, got);
-                CopperLink::after_linking(c, port, speeds, left, step)
+                let step = s.next(x557.phy as u32, managed.port, got);
+                CopperLink::after_linking(managed, x557, speeds, left, step)
             }
             CopperLink::Advertise(speeds, s) => {
-                let step = s.next(c.asked(speeds), port, got);
-                CopperLink::after_advertise(c, port, speeds, step)
+                let step = s.next(asked(managed, x557, speeds), managed.port, got);
+                CopperLink::after_advertise(managed, x557, speeds, step)
             }
         }
     }

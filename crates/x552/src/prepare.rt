@@ -10,7 +10,7 @@ ghost use Rattle.x552.specs.Prepare.{sel_phy, stall_of, prepared_of, found_then,
 
 use access::access::Job;
 use answers::{Internal, X557};
-use hardware::{Error, Family, Port, Step};
+use hardware::{Error, Family, Managed, Port, Step};
 use phy::clock::Clock;
 use phy::modify::{Modify, Register};
 use phy::probe::Probe;
@@ -70,15 +70,13 @@ impl Phy {
     fn prepared(self, port: Port, unstalled: bool, reset: bool) -> X557
         ensures { prepared_of port self unstalled reset ≡ result }
     {
-        let family = port.family;
-        let internal = Phy::internal(family, self.sel);
         X557 {
             phy: self.phy,
             id: self.id,
             sel: self.sel,
             unstalled,
             reset,
-            internal,
+            internal: Phy::internal(port.family, self.sel),
         }
     }
 
@@ -99,86 +97,83 @@ impl Phy {
 impl PrepareCopper {
     #[tactic(auto, using(hardware::proofs::Laws::then_assoc))]
     fn after_reset(
-        veto: bool,
-        port: Port,
+        managed: Managed,
         found: Phy,
         unstalled: bool,
         step: Step<Job, Reset, Result<(), Error>>,
     ) -> Step<Job, PrepareCopper, Result<X557, Error>>
-        ensures { (b : List ℕ) → told_prepare port veto b result ≡ done_then port found unstalled (told_reset port found.phy true b step) }
+        ensures { (b : List ℕ) → told_prepare managed b result ≡ done_then managed.port found unstalled (told_reset managed.port found.phy true b step) }
     {
         match step {
             Step::Ask(job, s) => Step::Ask(job, PrepareCopper::Reset(found, unstalled, s)),
             Step::Done(Err(e)) => Step::Done(Err(e)),
-            Step::Done(Ok(())) => Step::Done(Ok(found.prepared(port, unstalled, true))),
+            Step::Done(Ok(())) => Step::Done(Ok(found.prepared(managed.port, unstalled, true))),
         }
     }
 
     // The reset, unless there is a veto.
+    #[tactic(auto, using(hardware::proofs::Laws::then_assoc))]
     fn reset(
-        veto: bool,
-        port: Port,
+        managed: Managed,
         found: Phy,
         unstalled: bool,
     ) -> Step<Job, PrepareCopper, Result<X557, Error>>
-        ensures { (b : List ℕ) → told_prepare port veto b result ≡ reset_then port veto found unstalled }
+        ensures { (b : List ℕ) → told_prepare managed b result ≡ reset_then managed found unstalled }
     {
-        if veto {
-            return Step::Done(Ok(found.prepared(port, unstalled, false)));
+        if managed.veto {
+            return Step::Done(Ok(found.prepared(managed.port, unstalled, false)));
         }
-        let step = Reset::start(found.phy as u32, true, port);
-        PrepareCopper::after_reset(veto, port, found, unstalled, step)
+        let step = Reset::start(found.phy as u32, true, managed.port);
+        PrepareCopper::after_reset(managed, found, unstalled, step)
     }
 
     #[tactic(auto, using(hardware::proofs::Laws::then_assoc))]
     fn after_unstall(
-        veto: bool,
-        port: Port,
+        managed: Managed,
         found: Phy,
         step: Step<Job, Modify, Result<u32, Error>>,
     ) -> Step<Job, PrepareCopper, Result<X557, Error>>
-        ensures { (b : List ℕ) → told_prepare port veto b result ≡ stall_then port veto found (told_modify port (stall_of found) b step) }
+        ensures { (b : List ℕ) → told_prepare managed b result ≡ stall_then managed found (told_modify managed.port (stall_of found) b step) }
     {
         match step {
             Step::Ask(job, s) => Step::Ask(job, PrepareCopper::Unstall(found, s)),
             Step::Done(Err(e)) => Step::Done(Err(e)),
-            Step::Done(Ok(_)) => PrepareCopper::reset(veto, port, found, true),
+            Step::Done(Ok(_)) => PrepareCopper::reset(managed, found, true),
         }
     }
 
     // At the first start since power-on the PHY's firmware waits to be let go on.
+    #[tactic(auto, using(hardware::proofs::Laws::then_assoc))]
     fn alarms(
-        veto: bool,
-        port: Port,
+        managed: Managed,
         found: Phy,
         alarms: u32,
     ) -> Step<Job, PrepareCopper, Result<X557, Error>>
-        ensures { (b : List ℕ) → told_prepare port veto b result ≡ alarms_then port veto found alarms }
+        ensures { (b : List ℕ) → told_prepare managed b result ≡ alarms_then managed found alarms }
     {
         if alarms & 3 == 0 {
-            return PrepareCopper::reset(veto, port, found, false);
+            return PrepareCopper::reset(managed, found, false);
         }
-        let step = Modify::start(found.stall(), port);
-        PrepareCopper::after_unstall(veto, port, found, step)
+        let step = Modify::start(found.stall(), managed.port);
+        PrepareCopper::after_unstall(managed, found, step)
     }
 
     fn after_alarms(
-        veto: bool,
-        port: Port,
+        managed: Managed,
         found: Phy,
         got: Result<u32, Error>,
     ) -> Step<Job, PrepareCopper, Result<X557, Error>>
-        ensures { (b : List ℕ) → told_prepare port veto b result ≡ got_alarms port veto found got }
+        ensures { (b : List ℕ) → told_prepare managed b result ≡ got_alarms managed found got }
     {
         match got {
             Err(e) => Step::Done(Err(e)),
-            Ok(v) => PrepareCopper::alarms(veto, port, found, v),
+            Ok(v) => PrepareCopper::alarms(managed, found, v),
         }
     }
 
     #[tactic(auto, using(hardware::proofs::Laws::then_assoc))]
-    fn found(veto: bool, port: Port, found: Phy) -> Step<Job, PrepareCopper, Result<X557, Error>>
-        ensures { (b : List ℕ) → told_prepare port veto b result ≡ found_then port veto found }
+    fn found(managed: Managed, found: Phy) -> Step<Job, PrepareCopper, Result<X557, Error>>
+        ensures { (b : List ℕ) → told_prepare managed b result ≡ found_then managed found }
     {
         Step::Ask(
             Job::ReadReg(found.phy as u32, Register::PMA, 0xcc02),
@@ -188,12 +183,11 @@ impl PrepareCopper {
 
     #[tactic(auto, using(hardware::proofs::Laws::then_assoc))]
     fn after_probe(
-        veto: bool,
-        port: Port,
+        managed: Managed,
         sel: u32,
         step: Step<Job, Probe, Result<Option<u32>, Error>>,
     ) -> Step<Job, PrepareCopper, Result<X557, Error>>
-        ensures { (b : List ℕ) → told_prepare port veto b result ≡ probe_then port veto sel (told_probe port (sel_phy sel) b step) }
+        ensures { (b : List ℕ) → told_prepare managed b result ≡ probe_then managed sel (told_probe managed.port (sel_phy sel) b step) }
     {
         match step {
             Step::Ask(job, s) => Step::Ask(job, PrepareCopper::Probe(sel, s)),
@@ -201,64 +195,58 @@ impl PrepareCopper {
             Step::Done(Ok(None)) => Step::Done(Err(Error::NoPhy)),
             Step::Done(Ok(Some(id))) => {
                 let phy = Phy::of(sel);
-                PrepareCopper::found(veto, port, Phy { phy, id, sel })
+                PrepareCopper::found(managed, Phy { phy, id, sel })
             }
         }
     }
 
     #[tactic(auto, using(hardware::proofs::Laws::then_assoc))]
     fn after_scan(
-        veto: bool,
-        port: Port,
+        managed: Managed,
         sel: u32,
         step: Step<Job, Scan, Result<Option<(u8, u32)>, Error>>,
     ) -> Step<Job, PrepareCopper, Result<X557, Error>>
-        ensures { (b : List ℕ) → told_prepare port veto b result ≡ scan_then port veto sel (told_scan port b step) }
+        ensures { (b : List ℕ) → told_prepare managed b result ≡ scan_then managed sel (told_scan managed.port b step) }
     {
         match step {
             Step::Ask(job, s) => Step::Ask(job, PrepareCopper::Scan(sel, s)),
             Step::Done(Err(e)) => Step::Done(Err(e)),
             Step::Done(Ok(None)) => Step::Done(Err(Error::NoPhy)),
-            Step::Done(Ok(Some((phy, id)))) => PrepareCopper::found(
-                veto,
-                port,
-                Phy { phy, id, sel },
-            ),
+            Step::Done(Ok(Some((phy, id)))) => PrepareCopper::found(managed, Phy { phy, id, sel }),
         }
     }
 
     // The PHY that NW_MNG_IF_SEL names is the only one tried; where it names none, all are.
-    fn sel(veto: bool, port: Port, sel: u32) -> Step<Job, PrepareCopper, Result<X557, Error>>
-        ensures { (b : List ℕ) → told_prepare port veto b result ≡ prepare_sel port veto sel }
+    #[tactic(auto, using(hardware::proofs::Laws::then_assoc))]
+    fn sel(managed: Managed, sel: u32) -> Step<Job, PrepareCopper, Result<X557, Error>>
+        ensures { (b : List ℕ) → told_prepare managed b result ≡ prepare_sel managed.port managed.veto sel }
     {
         if sel == 0 {
-            let step = Scan::start(port);
-            return PrepareCopper::after_scan(veto, port, sel, step);
+            let step = Scan::start(managed.port);
+            return PrepareCopper::after_scan(managed, sel, step);
         }
-        let step = Probe::start(Phy::of(sel) as u32, port);
-        PrepareCopper::after_probe(veto, port, sel, step)
+        let step = Probe::start(Phy::of(sel) as u32, managed.port);
+        PrepareCopper::after_probe(managed, sel, step)
     }
 
     fn after_sel(
-        veto: bool,
-        port: Port,
+        managed: Managed,
         got: Result<u32, Error>,
     ) -> Step<Job, PrepareCopper, Result<X557, Error>>
-        ensures { (b : List ℕ) → told_prepare port veto b result ≡ got_sel port veto got }
+        ensures { (b : List ℕ) → told_prepare managed b result ≡ got_sel managed got }
     {
         match got {
             Err(e) => Step::Done(Err(e)),
-            Ok(sel) => PrepareCopper::sel(veto, port, sel),
+            Ok(sel) => PrepareCopper::sel(managed, sel),
         }
     }
 
     #[tactic(auto, using(hardware::proofs::Laws::then_assoc))]
     fn after_clock(
-        veto: bool,
-        port: Port,
+        managed: Managed,
         step: Step<Job, Clock, Result<(), Error>>,
     ) -> Step<Job, PrepareCopper, Result<X557, Error>>
-        ensures { (b : List ℕ) → told_prepare port veto b result ≡ clock_then port veto (told_clock port false b step) }
+        ensures { (b : List ℕ) → told_prepare managed b result ≡ clock_then managed (told_clock managed.port false b step) }
     {
         match step {
             Step::Ask(job, s) => Step::Ask(job, PrepareCopper::Clock(s)),
@@ -268,46 +256,43 @@ impl PrepareCopper {
     }
 
     #[tactic(auto, unfolding(reference::specs::X552::prepare_copper))]
-    pub fn start(veto: bool, port: Port) -> Step<Job, PrepareCopper, Result<X557, Error>>
-        ensures { (b : List ℕ) → told_prepare port veto b result ≡ prepare_copper port veto }
+    pub fn start(managed: Managed) -> Step<Job, PrepareCopper, Result<X557, Error>>
+        ensures { (b : List ℕ) → told_prepare managed b result ≡ prepare_copper managed.port managed.veto }
     {
-        PrepareCopper::after_clock(veto, port, Clock::start(false, port))
+        PrepareCopper::after_clock(managed, Clock::start(false, managed.port))
     }
 
     #[tactic(auto, using(hardware::proofs::Laws::then_assoc))]
     pub fn next(
         self,
-        veto: bool,
-        port: Port,
+        managed: Managed,
         got: Result<u32, Error>,
     ) -> Step<Job, PrepareCopper, Result<X557, Error>>
-        ensures { (b : List ℕ) → told_prepare port veto b result ≡ resume_prepare port veto self got }
+        ensures { (b : List ℕ) → told_prepare managed b result ≡ resume_prepare managed self got }
     {
         match self {
             PrepareCopper::Clock(s) => PrepareCopper::after_clock(
-                veto,
-                port,
-                s.next(false, port, got),
+                managed,
+                s.next(false, managed.port, got),
             ),
-            PrepareCopper::Sel => PrepareCopper::after_sel(veto, port, got),
+            PrepareCopper::Sel => PrepareCopper::after_sel(managed, got),
             PrepareCopper::Probe(sel, s) => {
-                let step = s.next(Phy::of(sel) as u32, port, got);
-                PrepareCopper::after_probe(veto, port, sel, step)
+                let step = s.next(Phy::of(sel) as u32, managed.port, got);
+                PrepareCopper::after_probe(managed, sel, step)
             }
             PrepareCopper::Scan(sel, s) => PrepareCopper::after_scan(
-                veto,
-                port,
+                managed,
                 sel,
-                s.next(port, got),
+                s.next(managed.port, got),
             ),
-            PrepareCopper::Alarms(found) => PrepareCopper::after_alarms(veto, port, found, got),
+            PrepareCopper::Alarms(found) => PrepareCopper::after_alarms(managed, found, got),
             PrepareCopper::Unstall(found, s) => {
-                let step = s.next(found.stall(), port, got);
-                PrepareCopper::after_unstall(veto, port, found, step)
+                let step = s.next(found.stall(), managed.port, got);
+                PrepareCopper::after_unstall(managed, found, step)
             }
             PrepareCopper::Reset(found, unstalled, s) => {
-                let step = s.next(found.phy as u32, true, port, got);
-                PrepareCopper::after_reset(veto, port, found, unstalled, step)
+                let step = s.next(found.phy as u32, true, managed.port, got);
+                PrepareCopper::after_reset(managed, found, unstalled, step)
             }
         }
     }

@@ -4,6 +4,7 @@ use Rattle.access.specs.Access.{told_job_by}
 use Rattle.hardware.specs.declared.Step.{Step}
 use Rattle.hardware.specs.Talk.{Call, Res, end, pick, is_clear, ◌>>=◌}
 use Rattle.std.specs.Prelude.{ℕ, Bool, false, true, List, eqb, Err, None, Ok, Option, Some}
+use Rattle.hardware.specs.declared.Managed.{Managed}
 use Rattle.hardware.specs.declared.Port.{Port}
 use Rattle.answers.specs.declared.FirmwarePhy.{FirmwarePhy}
 use Rattle.answers.specs.declared.FirmwareSetup.{FirmwareSetup}
@@ -28,8 +29,8 @@ abbrev pub link_info_of : Asked
 link_info_of = no_data 3
 
 -- the Rust's function, of what was prepared
-abbrev pub prepared_of : Port → Bool → FirmwarePrepared → Call Setup553
-prepared_of port veto p = setup_prepared 10 port veto (firmware p.phy p.reset p.down)
+abbrev pub prepared_of : Managed → FirmwarePrepared → Call Setup553
+prepared_of managed p = setup_prepared 10 managed.port managed.veto (firmware p.phy p.reset p.down)
 
 -- what comes after each of its parts
 abbrev pub down_then : FirmwarePhy → Option ℕ → Call Words → Call Setup553

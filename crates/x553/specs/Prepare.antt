@@ -3,8 +3,9 @@ use Rattle.access.specs.declared.access.Job.{Job}
 use Rattle.access.specs.Access.{told_job_by}
 use Rattle.hardware.specs.declared.Step.{Step}
 use Rattle.hardware.specs.Talk.{Call, Res, ◌>>=◌, return}
-use Rattle.std.specs.Prelude.{ℕ, Bool, true, List, eqb, Err, Ok}
+use Rattle.std.specs.Prelude.{ℕ, true, List, eqb, Err, Ok}
 use Rattle.std.specs.Int.Bits.{bit_or}
+use Rattle.hardware.specs.declared.Managed.{Managed}
 use Rattle.hardware.specs.declared.Port.{Port}
 use Rattle.answers.specs.declared.FirmwarePhy.{FirmwarePhy}
 use Rattle.answers.specs.declared.Words.{Words}
@@ -64,16 +65,16 @@ place_then port p phy t = t >>= λ out. place_done port p phy out
 abbrev pub place_at : Port → FirmwarePlace → FirmwarePhy → Call x553.Prepared
 place_at port p phy = place_then port p phy (activity_of port (asked_of p phy))
 
-abbrev pub info_then : Port → Bool → Call Words → Call x553.Prepared
-info_then port veto t = t >>= λ info. prepare_info port veto (phy_info info)
+abbrev pub info_then : Managed → Call Words → Call x553.Prepared
+info_then managed t = t >>= λ info. prepare_info managed.port managed.veto (phy_info info)
 
-abbrev pub resume_prepare : Port → Bool → PrepareFirmware → Res ℕ → List ℕ → Call x553.Prepared
-resume_prepare port veto (prepare.Info s) got ws = info_then port veto (resume_activity port info_of s got ws)
-resume_prepare port veto (prepare.Then p phy s) got ws = place_then port p phy (resume_activity port (asked_of p phy) s got ws)
+abbrev pub resume_prepare : Managed → PrepareFirmware → Res ℕ → List ℕ → Call x553.Prepared
+resume_prepare managed (prepare.Info s) got ws = info_then managed (resume_activity managed.port info_of s got ws)
+resume_prepare managed (prepare.Then p phy s) got ws = place_then managed.port p phy (resume_activity managed.port (asked_of p phy) s got ws)
 
 abbrev pub prepared_to : Res FirmwarePrepared → Res x553.Prepared
 prepared_to (Ok p) = Ok (firmware p.phy p.reset p.down)
 prepared_to (Err e) = Err e
 
-abbrev pub told_prepare : Port → Bool → List ℕ → Step Job PrepareFirmware (Res FirmwarePrepared) → Call x553.Prepared
-told_prepare port veto b = told_job_by prepared_to port b (λ s got ws. resume_prepare port veto s got ws)
+abbrev pub told_prepare : Managed → List ℕ → Step Job PrepareFirmware (Res FirmwarePrepared) → Call x553.Prepared
+told_prepare managed b = told_job_by prepared_to managed.port b (λ s got ws. resume_prepare managed s got ws)

@@ -24,7 +24,7 @@ use crate::sgmii_an::SgmiiAn;
 use access::access::Job;
 use activity::Activity;
 use answers::{FirmwarePhy, FirmwareSetup, Words};
-use hardware::{Error, Port, Step};
+use hardware::{Error, Managed, Port, Step};
 
 #[derive(Clone, Copy)]
 pub enum SetupFirmware {
@@ -70,10 +70,8 @@ impl SetupFirmware {
     {
         match step {
             Step::Ask(job, s) => Step::Ask(job, SetupFirmware::Down(phy, internal, s)),
-            Step::Done(r) => match r {
-                Err(e) => Step::Done(Err(e)),
-                Ok(_) => SetupFirmware::set(port, phy, internal, true),
-            },
+            Step::Done(Err(e)) => Step::Done(Err(e)),
+            Step::Done(Ok(_)) => SetupFirmware::set(port, phy, internal, true),
         }
     }
 
@@ -119,10 +117,8 @@ impl SetupFirmware {
     {
         match step {
             Step::Ask(job, s) => Step::Ask(job, SetupFirmware::Info(phy, flx, s)),
-            Step::Done(r) => match r {
-                Err(e) => Step::Done(Err(e)),
-                Ok(out) => SetupFirmware::info(port, phy, flx, block, out),
-            },
+            Step::Done(Err(e)) => Step::Done(Err(e)),
+            Step::Done(Ok(out)) => SetupFirmware::info(port, phy, flx, block, out),
         }
     }
 
@@ -155,10 +151,8 @@ impl SetupFirmware {
     {
         match step {
             Step::Ask(job, s) => Step::Ask(job, SetupFirmware::Link(phy, flx, s)),
-            Step::Done(r) => match r {
-                Err(e) => Step::Done(Err(e)),
-                Ok(out) => SetupFirmware::link(port, phy, flx, block, out),
-            },
+            Step::Done(Err(e)) => Step::Done(Err(e)),
+            Step::Done(Ok(out)) => SetupFirmware::link(port, phy, flx, block, out),
         }
     }
 
@@ -173,14 +167,12 @@ impl SetupFirmware {
     {
         match step {
             Step::Ask(job, s) => Step::Ask(job, SetupFirmware::Internal(phy, s)),
-            Step::Done(r) => match r {
-                Err(e) => Step::Done(Err(e)),
-                Ok(flx) => {
-                    let data = phy.speeds as u32 | FirmwarePlace::HP | FirmwarePlace::AN;
-                    let s = begin(FirmwarePlace::SETUP_LINK, data, port, block);
-                    Step::Ask(Job::Command(6), SetupFirmware::Link(phy, flx, s))
-                }
-            },
+            Step::Done(Err(e)) => Step::Done(Err(e)),
+            Step::Done(Ok(flx)) => {
+                let data = phy.speeds as u32 | FirmwarePlace::HP | FirmwarePlace::AN;
+                let s = begin(FirmwarePlace::SETUP_LINK, data, port, block);
+                Step::Ask(Job::Command(6), SetupFirmware::Link(phy, flx, s))
+            }
         }
     }
 
@@ -224,23 +216,18 @@ impl SetupFirmware {
 
     // Where the PHY was not reset, MMNGC is not read.
     pub fn start(
-        veto: bool,
-        port: Port,
+        managed: Managed,
         prepared: FirmwarePrepared,
     ) -> Step<Job, SetupFirmware, Result<FirmwareSetup, Error>>
-        ensures { (b : List ℕ) → told_firmware port b result ≡ prepared_of port veto prepared }
+        ensures { (b : List ℕ) → told_firmware managed.port b result ≡ prepared_of managed prepared }
     {
-        let phy = prepared.phy;
-        if prepared.reset {
-            if veto {
-                return SetupFirmware::set(port, phy, None, false);
-            }
-            return Step::Ask(
-                Job::Read(Port::MMNGC),
-                SetupFirmware::Mmngc(phy, prepared.down),
-            );
+        if managed.veto || !prepared.reset {
+            return SetupFirmware::set(managed.port, prepared.phy, None, false);
         }
-        SetupFirmware::set(port, phy, None, false)
+        Step::Ask(
+            Job::Read(Port::MMNGC),
+            SetupFirmware::Mmngc(prepared.phy, prepared.down),
+        )
     }
 
     #[tactic(auto, using(hardware::proofs::Laws::then_assoc))]

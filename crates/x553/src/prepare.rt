@@ -8,7 +8,7 @@ ghost use Rattle.x553.specs.Prepare.{asked_with, begun_with, info_of, asked_of, 
 use access::access::Job;
 use activity::{Activity, Asked};
 use answers::{FirmwarePhy, Words};
-use hardware::{Error, Port, Step};
+use hardware::{Error, Managed, Port, Step};
 
 // Which activity after the first.
 #[derive(Clone, Copy)]
@@ -49,13 +49,7 @@ pub fn asked(activity: u16, word: u32) -> Asked
 pub fn begin(activity: u16, word: u32, port: Port, block: &mut [u32; 16]) -> Activity
     ensures { begun_with port activity word block.new result ≡ phy_activity port activity word 0 0 0 }
 {
-    let data = Words {
-        w0: word,
-        w1: 0,
-        w2: 0,
-        w3: 0,
-    };
-    Activity::first(Asked { activity, data }, port, block)
+    Activity::first(asked(activity, word), port, block)
 }
 
 // GET_PHY_INFO's answer.
@@ -102,39 +96,35 @@ impl PrepareFirmware {
     fn begin(
         place: FirmwarePlace,
         phy: FirmwarePhy,
-        veto: bool,
-        port: Port,
+        managed: Managed,
         block: &mut [u32; 16],
     ) -> Step<Job, PrepareFirmware, Result<FirmwarePrepared, Error>>
-        ensures { told_prepare port veto block.new result ≡ place_at port place phy }
+        ensures { told_prepare managed block.new result ≡ place_at managed.port place phy }
     {
-        let s = Activity::first(place.asked(phy), port, block);
+        let s = Activity::first(place.asked(phy), managed.port, block);
         Step::Ask(Job::Command(6), PrepareFirmware::Then(place, phy, s))
     }
 
     fn then(
         place: FirmwarePlace,
         phy: FirmwarePhy,
-        veto: bool,
-        port: Port,
+        managed: Managed,
         block: &mut [u32; 16],
         out: Words,
     ) -> Step<Job, PrepareFirmware, Result<FirmwarePrepared, Error>>
-        ensures { told_prepare port veto block.new result ≡ place_done port place phy out }
+        ensures { told_prepare managed block.new result ≡ place_done managed.port place phy out }
     {
         match place {
             FirmwarePlace::Reset => PrepareFirmware::begin(
                 FirmwarePlace::Init,
                 phy,
-                veto,
-                port,
+                managed,
                 block,
             ),
             FirmwarePlace::Init => PrepareFirmware::begin(
                 FirmwarePlace::Setup,
                 phy,
-                veto,
-                port,
+                managed,
                 block,
             ),
             FirmwarePlace::Setup => Step::Done(Ok(FirmwarePrepared {
@@ -149,97 +139,89 @@ impl PrepareFirmware {
     fn after_place(
         place: FirmwarePlace,
         phy: FirmwarePhy,
-        veto: bool,
-        port: Port,
+        managed: Managed,
         block: &mut [u32; 16],
         step: Step<Job, Activity, Result<Words, Error>>,
     ) -> Step<Job, PrepareFirmware, Result<FirmwarePrepared, Error>>
-        ensures { told_prepare port veto block.new result ≡ place_then port place phy (told_activity port (asked_of place phy) block.old step) }
+        ensures { told_prepare managed block.new result ≡ place_then managed.port place phy (told_activity managed.port (asked_of place phy) block.old step) }
     {
         match step {
             Step::Ask(job, s) => Step::Ask(job, PrepareFirmware::Then(place, phy, s)),
-            Step::Done(r) => match r {
-                Err(e) => Step::Done(Err(e)),
-                Ok(out) => PrepareFirmware::then(place, phy, veto, port, block, out),
-            },
+            Step::Done(Err(e)) => Step::Done(Err(e)),
+            Step::Done(Ok(out)) => PrepareFirmware::then(place, phy, managed, block, out),
         }
     }
 
     // No PHY has an id of 0 or 0xfffffff0.
     fn info(
-        veto: bool,
-        port: Port,
+        managed: Managed,
         block: &mut [u32; 16],
-        phy: FirmwarePhy,
+        out: Words,
     ) -> Step<Job, PrepareFirmware, Result<FirmwarePrepared, Error>>
-        ensures { told_prepare port veto block.new result ≡ prepare_info port veto phy }
+        ensures { told_prepare managed block.new result ≡ prepare_info managed.port managed.veto (phy_info out) }
     {
+        let phy = phy_info(out);
         if phy.id == 0 {
             return Step::Done(Err(Error::NoPhy));
         }
         if phy.id == 0xffff_fff0 {
             return Step::Done(Err(Error::NoPhy));
         }
-        if veto {
+        if managed.veto {
             return Step::Done(Ok(FirmwarePrepared {
                 phy,
                 reset: false,
                 down: false,
             }));
         }
-        PrepareFirmware::begin(FirmwarePlace::Reset, phy, veto, port, block)
+        PrepareFirmware::begin(FirmwarePlace::Reset, phy, managed, block)
     }
 
     #[tactic(auto, using(hardware::proofs::Laws::then_assoc))]
     fn after_info(
-        veto: bool,
-        port: Port,
+        managed: Managed,
         block: &mut [u32; 16],
         step: Step<Job, Activity, Result<Words, Error>>,
     ) -> Step<Job, PrepareFirmware, Result<FirmwarePrepared, Error>>
-        ensures { told_prepare port veto block.new result ≡ info_then port veto (told_activity port info_of block.old step) }
+        ensures { told_prepare managed block.new result ≡ info_then managed (told_activity managed.port info_of block.old step) }
     {
         match step {
             Step::Ask(job, s) => Step::Ask(job, PrepareFirmware::Info(s)),
-            Step::Done(r) => match r {
-                Err(e) => Step::Done(Err(e)),
-                Ok(out) => PrepareFirmware::info(veto, port, block, phy_info(out)),
-            },
+            Step::Done(Err(e)) => Step::Done(Err(e)),
+            Step::Done(Ok(out)) => PrepareFirmware::info(managed, block, out),
         }
     }
 
     #[tactic(auto, using(hardware::proofs::Laws::then_assoc), unfolding(reference::specs::X553::prepare_firmware))]
     pub fn start(
-        veto: bool,
-        port: Port,
+        managed: Managed,
         block: &mut [u32; 16],
     ) -> Step<Job, PrepareFirmware, Result<FirmwarePrepared, Error>>
-        ensures { told_prepare port veto block.new result ≡ prepare_firmware port veto }
+        ensures { told_prepare managed block.new result ≡ prepare_firmware managed.port managed.veto }
     {
-        let s = begin(FirmwarePlace::GET_PHY_INFO, 0, port, block);
+        let s = begin(FirmwarePlace::GET_PHY_INFO, 0, managed.port, block);
         Step::Ask(Job::Command(6), PrepareFirmware::Info(s))
     }
 
     #[tactic(auto, using(hardware::proofs::Laws::then_assoc))]
     pub fn next(
         self,
-        veto: bool,
-        port: Port,
+        managed: Managed,
         block: &mut [u32; 16],
         got: Result<u32, Error>,
         words: usize,
     ) -> Step<Job, PrepareFirmware, Result<FirmwarePrepared, Error>>
-        ensures { told_prepare port veto block.new result ≡ resume_prepare port veto self got (take words block.old) }
+        ensures { told_prepare managed block.new result ≡ resume_prepare managed self got (take words block.old) }
     {
         match self {
             PrepareFirmware::Info(s) => {
                 let info = asked(FirmwarePlace::GET_PHY_INFO, 0);
-                let step = s.next(info, port, block, got, words);
-                PrepareFirmware::after_info(veto, port, block, step)
+                let step = s.next(info, managed.port, block, got, words);
+                PrepareFirmware::after_info(managed, block, step)
             }
             PrepareFirmware::Then(place, phy, s) => {
-                let step = s.next(place.asked(phy), port, block, got, words);
-                PrepareFirmware::after_place(place, phy, veto, port, block, step)
+                let step = s.next(place.asked(phy), managed.port, block, got, words);
+                PrepareFirmware::after_place(place, phy, managed, block, step)
             }
         }
     }

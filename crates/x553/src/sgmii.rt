@@ -49,10 +49,8 @@ impl Sgmii {
     {
         match step {
             Step::Ask(job, s) => Step::Ask(job, Sgmii::Restart(set, s)),
-            Step::Done(r) => match r {
-                Err(e) => Step::Done(Err(e)),
-                Ok(_) => Step::Done(Ok(set)),
-            },
+            Step::Done(Err(e)) => Step::Done(Err(e)),
+            Step::Done(Ok(_)) => Step::Done(Ok(set)),
         }
     }
 
@@ -67,18 +65,16 @@ impl Sgmii {
     {
         match step {
             Step::Ask(job, s) => Step::Ask(job, Sgmii::Lane(lc1, sgmii, s)),
-            Step::Done(r) => match r {
-                Err(e) => Step::Done(Err(e)),
-                Ok(flx) => {
-                    let set = SgmiiSetup {
-                        link_ctrl: lc1,
-                        sgmii,
-                        flx,
-                    };
-                    let step = Sequence::start(KrPlace::Restart, port);
-                    Sgmii::after_restart(port, set, step)
-                }
-            },
+            Step::Done(Err(e)) => Step::Done(Err(e)),
+            Step::Done(Ok(flx)) => {
+                let set = SgmiiSetup {
+                    link_ctrl: lc1,
+                    sgmii,
+                    flx,
+                };
+                let step = Sequence::start(KrPlace::Restart, port);
+                Sgmii::after_restart(port, set, step)
+            }
         }
     }
 
@@ -92,13 +88,11 @@ impl Sgmii {
     {
         match step {
             Step::Ask(job, s) => Step::Ask(job, Sgmii::Force(lc1, s)),
-            Step::Done(r) => match r {
-                Err(e) => Step::Done(Err(e)),
-                Ok(sgmii) => {
-                    let step = KrModify::start(Sgmii::lane(), port);
-                    Sgmii::after_lane(port, lc1, sgmii, step)
-                }
-            },
+            Step::Done(Err(e)) => Step::Done(Err(e)),
+            Step::Done(Ok(sgmii)) => {
+                let step = KrModify::start(Sgmii::lane(), port);
+                Sgmii::after_lane(port, lc1, sgmii, step)
+            }
         }
     }
 
@@ -111,13 +105,11 @@ impl Sgmii {
     {
         match step {
             Step::Ask(job, s) => Step::Ask(job, Sgmii::Ctrl(s)),
-            Step::Done(r) => match r {
-                Err(e) => Step::Done(Err(e)),
-                Ok(lc1) => {
-                    let step = KrModify::start(Sgmii::force(), port);
-                    Sgmii::after_force(port, lc1, step)
-                }
-            },
+            Step::Done(Err(e)) => Step::Done(Err(e)),
+            Step::Done(Ok(lc1)) => {
+                let step = KrModify::start(Sgmii::force(), port);
+                Sgmii::after_force(port, lc1, step)
+            }
         }
     }
 

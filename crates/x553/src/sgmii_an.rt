@@ -53,10 +53,8 @@ impl SgmiiAn {
     {
         match step {
             Step::Ask(job, s) => Step::Ask(job, SgmiiAn::Restart(flx, s)),
-            Step::Done(r) => match r {
-                Err(e) => Step::Done(Err(e)),
-                Ok(_) => Step::Done(Ok(flx)),
-            },
+            Step::Done(Err(e)) => Step::Done(Err(e)),
+            Step::Done(Ok(_)) => Step::Done(Ok(flx)),
         }
     }
 
@@ -69,13 +67,11 @@ impl SgmiiAn {
     {
         match step {
             Step::Ask(job, s) => Step::Ask(job, SgmiiAn::Lane(s)),
-            Step::Done(r) => match r {
-                Err(e) => Step::Done(Err(e)),
-                Ok(flx) => {
-                    let step = Sequence::start(KrPlace::Restart, port);
-                    SgmiiAn::after_restart(port, flx, step)
-                }
-            },
+            Step::Done(Err(e)) => Step::Done(Err(e)),
+            Step::Done(Ok(flx)) => {
+                let step = Sequence::start(KrPlace::Restart, port);
+                SgmiiAn::after_restart(port, flx, step)
+            }
         }
     }
 
@@ -102,13 +98,11 @@ impl SgmiiAn {
     {
         match step {
             Step::Ask(job, s) => Step::Ask(job, SgmiiAn::Force(lc1, s)),
-            Step::Done(r) => match r {
-                Err(e) => Step::Done(Err(e)),
-                Ok(_) => {
-                    let address = krm(port.lan, Change::LINK_CTRL_1);
-                    Step::Ask(Job::KrWrite(address, lc1), SgmiiAn::Again)
-                }
-            },
+            Step::Done(Err(e)) => Step::Done(Err(e)),
+            Step::Done(Ok(_)) => {
+                let address = krm(port.lan, Change::LINK_CTRL_1);
+                Step::Ask(Job::KrWrite(address, lc1), SgmiiAn::Again)
+            }
         }
     }
 
@@ -121,13 +115,11 @@ impl SgmiiAn {
     {
         match step {
             Step::Ask(job, s) => Step::Ask(job, SgmiiAn::Ctrl(s)),
-            Step::Done(r) => match r {
-                Err(e) => Step::Done(Err(e)),
-                Ok(lc1) => {
-                    let step = KrModify::start(SgmiiAn::force(), port);
-                    SgmiiAn::after_force(port, lc1, step)
-                }
-            },
+            Step::Done(Err(e)) => Step::Done(Err(e)),
+            Step::Done(Ok(lc1)) => {
+                let step = KrModify::start(SgmiiAn::force(), port);
+                SgmiiAn::after_force(port, lc1, step)
+            }
         }
     }
 

@@ -135,9 +135,10 @@ module _ (c : Command) (h : c.register < 2 ^ 16) where
       operation_document (c.phy % 32) (c.device % 32) c.register (omega arith) (omega arith) h (c.operation % 4) (omega arith)
       ∙ simp mod-mod
 
-  pub command_shifted : (go : Bool) → c.go ≡ go → command c ≡ pick go (bit_or (shifted c) COMMAND) (shifted c)
-  command_shifted go e = ap (cycle c.operation c.phy c.device c.register) e ∙ by go
-    where
-      by : (go : Bool) → cycle c.operation c.phy c.device c.register go ≡ pick go (bit_or (shifted c) COMMAND) (shifted c)
-      by true = sym (ap (λ w. bit_or w COMMAND) without_go ∙ go_document c.operation c.phy c.device c.register h)
-      by false = sym without_go
+  pub command_going : c.go ≡ true → command c ≡ bit_or (shifted c) COMMAND
+  command_going e =
+      ap (cycle c.operation c.phy c.device c.register) e
+      ∙ sym (ap (λ w. bit_or w COMMAND) without_go ∙ go_document c.operation c.phy c.device c.register h)
+
+  pub command_not_going : c.go ≡ false → command c ≡ shifted c
+  command_not_going e = ap (cycle c.operation c.phy c.device c.register) e ∙ sym without_go

@@ -4,8 +4,8 @@ use Rattle.reference.specs.X552.{kr_write}
 use Rattle.access.proofs.Laws.{wrote}
 use Rattle.kr.proofs.modify.KrModify.next.Goals as goal
 
-pub returns-in-Reading : goal.returns-in-Reading
-returns-in-Reading c = λ b. let args = c.args in
-    let value = changed args.change.keep args.change.set c.in-Ok.v in
-    simp (c.in-Ok.is, c.in-Reading.is, c.krm-address.ensures)
+pub returns-in-Reading-Ok : goal.returns-in-Reading-Ok
+returns-in-Reading-Ok c = λ b. let args = c.args in
+    let value = changed args.change.keep args.change.set c.in-Reading-Ok.v in
+    simp (c.in-Reading-Ok.is-0, c.in-Reading-Ok.is-1, c.krm-address.ensures)
     (wrote (kr_write 10 args.port c.krm-address.result value) (return value))

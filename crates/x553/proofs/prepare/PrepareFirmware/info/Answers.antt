@@ -3,4 +3,4 @@ use borrow.Author.Tests.{ne_eqb}
 use Rattle.x553.proofs.prepare.PrepareFirmware.info.Goals as goal
 
 pub returns : goal.returns
-returns c = simp (ne_eqb _ _ c.if-phy-eq0.false, ne_eqb _ _ c.if-phy-eq4294967280.false, c.begin.ensures) (simp (c.if-veto.false, reset_place))
+returns c = simp (c.phy_info-phy.ensures, ne_eqb _ _ c.if-phy-eq0.false, ne_eqb _ _ c.if-phy.false, c.begin.ensures) (simp (c.if-managed.false, reset_place))

@@ -1,0 +1,17 @@
+pub mod Hardware
+pub mod Words
+pub mod Answers
+pub mod Hostif
+pub mod Sync
+pub mod Mdio
+pub mod Sideband
+pub mod Access
+pub mod Activity
+pub mod Phy
+pub mod Operations
+pub mod Kr
+pub mod X552
+pub mod X553
+pub mod Bringup
+pub mod Watch
+pub mod Started

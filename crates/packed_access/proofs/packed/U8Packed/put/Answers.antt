@@ -1,6 +1,0 @@
-use Rattle.packed_access.specs.Tape.{word_at}
-use Rattle.packed_access.proofs.packed.U8Packed.put.Goals as goal
-
-pub returns-clause-back : goal.returns-clause-back
-unfolding word_at
-returns-clause-back c = λ rest. c.wide_byte.ensures.fits

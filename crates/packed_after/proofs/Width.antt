@@ -1,3 +1,0 @@
-pub mod Phy
-pub mod Operations
-pub mod Watch
