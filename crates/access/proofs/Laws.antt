@@ -24,11 +24,6 @@ wrote (end (Ok _)) k = refl
 wrote (end (Err e)) k = refl
 wrote (ask a c) k = ap (ask a) (fun_ext (λ r. wrote (c r) k))
 
-pub wrote_last : (t : Call (Unit {0})) → and_then (no_word t) (λ p. or_stop (λ _. return tt) p.0) ≡ t
-wrote_last (end (Ok _)) = refl
-wrote_last (end (Err e)) = refl
-wrote_last (ask a c) = ap (ask a) (fun_ext (λ r. wrote_last (c r)))
-
 -- nothing or 0 for a body that gives no word
 
 module _ (give : Call (Unit {0})) where

@@ -15,7 +15,7 @@ use Rattle.access.specs.declared.body.Held.{Held}
 use Rattle.access.specs.declared.access.Job.{Job}
 use Rattle.access.specs.declared.access.Job.TheVariants as job
 use Rattle.access.specs.declared.access.Access.{Access}
-use Rattle.access.specs.declared.access.Given.{Given}
+use Rattle.access.specs.declared.access.Ended.{Ended}
 use Rattle.hardware.specs.Told.{told_by}
 use Rattle.access.specs.declared.access.Access.TheVariants as access
 
@@ -45,8 +45,8 @@ resume_access port access.Waiting b r = end (Ok 0, [])
 resume_access port (access.Command words s) b r = resume_command port s (take words b) r
 resume_access port (access.Under mask s) b r = keep (resume_locked port mask s b r) []
 
-abbrev pub told_access : Port → List ℕ → Step Action Access Given → Talk (Res ℕ × List ℕ)
-told_access port b = told_by (λ (g : Given). (g.word, take g.words b)) (λ s r. resume_access port s b r)
+abbrev pub told_access : Port → List ℕ → Step Action Access (Ended ℕ) → Talk (Res ℕ × List ℕ)
+told_access port b = told_by (λ (g : Ended ℕ). (g.answer, take g.words b)) (λ s r. resume_access port s b r)
 
 -- what a step says that asks for jobs: its answer, or the job and how its state goes on from what the job gave
 abbrev pub told_job : {S A : Type 0} → Port → List ℕ → (S → Res ℕ → List ℕ → Talk A) → Step Job S A → Talk A

@@ -11,7 +11,7 @@ ghost use Rattle.access.specs.Access.{job_talk, no_word, under_talk, resume_acce
 
 use crate::body::Held;
 use crate::hold::Hold;
-use crate::locked::Locked;
+use crate::locked::{Locked, LockedCall};
 use drive::machine::Machine;
 use hardware::{Action, Error, Family, Port, Regs, Reply, Step, checked, done};
 use hostif::command::Command;
@@ -60,10 +60,11 @@ pub struct Begun {
     pub access: Access,
 }
 
-// What an access gave, 0 for nothing, and how many words of the host block belong to it.
+// How an access ends, with a word, and an operation: the answer, and how many words of the host block belong to it. The word of
+// an access that gives nothing is 0.
 #[derive(Clone, Copy)]
-pub struct Given {
-    pub word: Result<u32, Error>,
+pub struct Ended<A> {
+    pub answer: Result<A, Error>,
     pub words: usize,
 }
 
@@ -95,7 +96,7 @@ impl Begun {
         ensures { under_talk port mask held ≡ ask result.action (λ x. resume_access port result.access block.new x) }
     {
         let regs = Regs::from(port.family);
-        let state = Locked::first(port, mask, held, block);
+        let state = Locked::first(LockedCall { port, mask }, held, block);
         Begun {
             action: Action::Read(regs.swsm),
             access: Access::Under(mask, state),
@@ -156,50 +157,60 @@ impl Access {
         port: Port,
         words: usize,
         step: Step<Action, Command, Result<u32, Error>>,
-    ) -> Step<Action, Access, Given>
+    ) -> Step<Action, Access, Ended<u32>>
         ensures { (b : List ℕ) → told_access port b result ≡ told_command port (take words b) step }
     {
         match step {
             Step::Ask(a, s) => Step::Ask(a, Access::Command(words, s)),
-            Step::Done(word) => Step::Done(Given { word, words }),
+            Step::Done(word) => Step::Done(Ended {
+                answer: word,
+                words,
+            }),
         }
     }
 
     pub fn under(
-        port: Port,
-        mask: u32,
+        call: LockedCall,
         step: Step<Action, Locked, Result<u32, Error>>,
-    ) -> Step<Action, Access, Given>
-        ensures { (b : List ℕ) → told_access port b result ≡ keep (told_locked port mask b step) [] }
+    ) -> Step<Action, Access, Ended<u32>>
+        ensures { (b : List ℕ) → told_access call.port b result ≡ keep (told_locked call.port call.mask b step) [] }
     {
         match step {
-            Step::Ask(a, s) => Step::Ask(a, Access::Under(mask, s)),
-            Step::Done(word) => Step::Done(Given { word, words: 0 }),
+            Step::Ask(a, s) => Step::Ask(a, Access::Under(call.mask, s)),
+            Step::Done(word) => Step::Done(Ended {
+                answer: word,
+                words: 0,
+            }),
         }
     }
 
     #[tactic(auto, unfolding(reference::specs::Acquire::acquire))]
-    pub fn acquire(port: Port, mask: u32, block: &mut [u32; 16]) -> Step<Action, Access, Given>
+    pub fn acquire(port: Port, mask: u32, block: &mut [u32; 16]) -> Step<Action, Access, Ended<u32>>
         ensures { told_access port block.new result ≡ no_word (acquire port mask) }
     {
         let step = Hold::acquire(port, mask, block);
-        Access::under(port, mask, Locked::alone(port, mask, step))
+        let call = LockedCall { port, mask };
+        Access::under(call, Locked::alone(call, step))
     }
 
     // That of mask 0 is done at once.
     #[tactic(auto, unfolding(reference::specs::Acquire::release))]
-    pub fn release(port: Port, mask: u32, block: &mut [u32; 16]) -> Step<Action, Access, Given>
+    pub fn release(port: Port, mask: u32, block: &mut [u32; 16]) -> Step<Action, Access, Ended<u32>>
         ensures { told_access port block.new result ≡ no_word (release port mask) }
     {
         let step = Hold::release(port, mask, block);
-        Access::under(port, mask, Locked::alone(port, mask, step))
+        let call = LockedCall { port, mask };
+        Access::under(call, Locked::alone(call, step))
     }
 
     // An access that has ended with no words of the host block.
-    fn gave(word: Result<u32, Error>) -> Step<Action, Access, Given>
+    fn gave(word: Result<u32, Error>) -> Step<Action, Access, Ended<u32>>
         ensures { (port : Port) (b : List ℕ) → told_access port b result ≡ end (word, []) }
     {
-        Step::Done(Given { word, words: 0 })
+        Step::Done(Ended {
+            answer: word,
+            words: 0,
+        })
     }
 
     pub fn next(
@@ -207,7 +218,7 @@ impl Access {
         port: Port,
         block: &mut [u32; 16],
         reply: Reply,
-    ) -> Step<Action, Access, Given>
+    ) -> Step<Action, Access, Ended<u32>>
         ensures { told_access port block.new result ≡ resume_access port self block.old reply }
     {
         match self {
@@ -219,8 +230,9 @@ impl Access {
                 Access::commanded(port, words, step)
             }
             Access::Under(mask, s) => {
-                let step = s.next(port, mask, block, reply);
-                Access::under(port, mask, step)
+                let call = LockedCall { port, mask };
+                let step = s.next(call, block, reply);
+                Access::under(call, step)
             }
         }
     }

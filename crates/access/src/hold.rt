@@ -1,4 +1,4 @@
-// `acquire` and `release` of sync.rs, with TOKEN, each suspended at an action. `hw` is the mask without TOKEN.
+// `acquire` and `release` of sync.rs, with TOKEN, each suspended at an action.
 ghost use Rattle.std.specs.Prelude.{ℕ, true, false, List, ◌≡◌, take};
 ghost use Rattle.hardware.specs.Talk.{ask};
 ghost use Rattle.hardware.specs.Regs.{regs};
@@ -14,6 +14,14 @@ use hardware::{Action, Error, Port, Regs, Reply, Step};
 use hostif::command::Command;
 use hostif::token::Token;
 use sync::sync::Sync;
+
+// What acquire or release is given, at each reply too.
+#[derive(Clone, Copy)]
+pub struct HoldCall {
+    pub port: Port,
+    // the mask without TOKEN
+    pub hw: u32,
+}
 
 // Where acquire_bits or release_bits runs.
 #[derive(Clone, Copy)]
@@ -48,11 +56,10 @@ impl Hold {
     pub const TOKEN: u32 = 0x4000_0000;
 
     fn plain(
-        port: Port,
-        hw: u32,
+        call: HoldCall,
         step: Step<Action, Sync, Result<(), Error>>,
     ) -> Step<Action, Hold, Result<(), Error>>
-        ensures { (b : List ℕ) → told_hold port hw b result ≡ told_sync hw step }
+        ensures { (b : List ℕ) → told_hold call.port call.hw b result ≡ told_sync call.hw step }
     {
         match step {
             Step::Ask(a, s) => Step::Ask(a, Hold::Bits(BitsPlace::Plain, s)),
@@ -62,125 +69,117 @@ impl Hold {
 
     #[tactic(auto, using(hardware::proofs::Laws::times_more, hardware::proofs::Laws::times_none))]
     fn again(
-        port: Port,
-        hw: u32,
+        call: HoldCall,
         block: &mut [u32; 16],
         left: u32,
     ) -> Step<Action, Hold, Result<(), Error>>
-        ensures { told_hold port hw block.new result ≡ acquire_times port hw left }
+        ensures { told_hold call.port call.hw block.new result ≡ acquire_times call.port call.hw left }
     {
         if left == 0 {
             Step::Done(Err(Error::Firmware {
                 command: Token::COMMAND,
                 status: Token::BUSY,
             }))
-        } else if hw == 0 {
-            Hold::ask(port, hw, block, left - 1)
+        } else if call.hw == 0 {
+            Hold::ask(call, block, left - 1)
         } else {
-            Hold::taken(port, hw, block, left - 1, Sync::take(port, hw))
+            Hold::taken(call, block, left - 1, Sync::take(call.port, call.hw))
         }
     }
 
     #[tactic(auto, unfolding(reference::specs::Acquire::acquire_ask))]
     fn ask(
-        port: Port,
-        hw: u32,
+        call: HoldCall,
         block: &mut [u32; 16],
         left: u32,
     ) -> Step<Action, Hold, Result<(), Error>>
-        ensures { told_hold port hw block.new result ≡ acquire_ask port hw (acquire_times port hw left) }
+        ensures { told_hold call.port call.hw block.new result ≡ acquire_ask call.port call.hw (acquire_times call.port call.hw left) }
     {
         let token = Token { take: true };
-        let step = token.start(port, block);
-        Hold::asked(port, hw, left, step)
+        let step = token.start(call.port, block);
+        Hold::asked(call, left, step)
     }
 
     fn taken(
-        port: Port,
-        hw: u32,
+        call: HoldCall,
         block: &mut [u32; 16],
         left: u32,
         step: Step<Action, Sync, Result<(), Error>>,
     ) -> Step<Action, Hold, Result<(), Error>>
-        ensures { told_hold port hw block.new result ≡ hold_taken port hw left (told_sync hw step) }
+        ensures { told_hold call.port call.hw block.new result ≡ hold_taken call.port call.hw left (told_sync call.hw step) }
     {
         match step {
             Step::Ask(a, s) => Step::Ask(a, Hold::Bits(BitsPlace::Taking(left), s)),
-            Step::Done(Ok(())) => Hold::ask(port, hw, block, left),
+            Step::Done(Ok(())) => Hold::ask(call, block, left),
             Step::Done(Err(e)) => Step::Done(Err(e)),
         }
     }
 
     fn asked(
-        port: Port,
-        hw: u32,
+        call: HoldCall,
         left: u32,
         step: Step<Action, Command, Result<bool, Error>>,
     ) -> Step<Action, Hold, Result<(), Error>>
-        ensures { (b : List ℕ) → told_hold port hw b result ≡ hold_asked port hw left (told_token port true b step) }
+        ensures { (b : List ℕ) → told_hold call.port call.hw b result ≡ hold_asked call.port call.hw left (told_token call.port true b step) }
     {
         match step {
             Step::Ask(a, s) => Step::Ask(a, Hold::Token(TokenPlace::Taking(left), s)),
-            Step::Done(granted) => Hold::got(port, hw, left, granted),
+            Step::Done(granted) => Hold::got(call, left, granted),
         }
     }
 
     #[tactic(auto, unfolding(reference::specs::Acquire::acquire_got))]
     fn got(
-        port: Port,
-        hw: u32,
+        call: HoldCall,
         left: u32,
         granted: Result<bool, Error>,
     ) -> Step<Action, Hold, Result<(), Error>>
-        ensures { (b : List ℕ) → told_hold port hw b result ≡ acquire_got port hw (acquire_times port hw left) granted }
+        ensures { (b : List ℕ) → told_hold call.port call.hw b result ≡ acquire_got call.port call.hw (acquire_times call.port call.hw left) granted }
     {
         match granted {
             Ok(true) => Step::Done(Ok(())),
-            _ => Hold::given(port, hw, left, granted),
+            _ => Hold::given(call, left, granted),
         }
     }
 
     // The bits are given back before the token is asked for again.
     #[tactic(auto, unfolding(reference::specs::Acquire::acquire_given))]
     fn given(
-        port: Port,
-        hw: u32,
+        call: HoldCall,
         left: u32,
         granted: Result<bool, Error>,
     ) -> Step<Action, Hold, Result<(), Error>>
-        ensures { (b : List ℕ) → told_hold port hw b result ≡ acquire_given port hw (acquire_times port hw left) granted }
+        ensures { (b : List ℕ) → told_hold call.port call.hw b result ≡ acquire_given call.port call.hw (acquire_times call.port call.hw left) granted }
     {
-        if hw == 0 {
-            Hold::lost(port, hw, left, granted)
+        if call.hw == 0 {
+            Hold::lost(call, left, granted)
         } else {
-            Hold::freed(port, hw, left, granted, Sync::give(port, hw))
+            Hold::freed(call, left, granted, Sync::give(call.port, call.hw))
         }
     }
 
     fn freed(
-        port: Port,
-        hw: u32,
+        call: HoldCall,
         left: u32,
         granted: Result<bool, Error>,
         step: Step<Action, Sync, Result<(), Error>>,
     ) -> Step<Action, Hold, Result<(), Error>>
-        ensures { (b : List ℕ) → told_hold port hw b result ≡ hold_freed port hw left granted (told_sync hw step) }
+        ensures { (b : List ℕ) → told_hold call.port call.hw b result ≡ hold_freed call.port call.hw left granted (told_sync call.hw step) }
     {
         match step {
             Step::Ask(a, s) => Step::Ask(a, Hold::Bits(BitsPlace::Freeing(left, granted), s)),
-            Step::Done(Ok(())) => Hold::lost(port, hw, left, granted),
+            Step::Done(Ok(())) => Hold::lost(call, left, granted),
             Step::Done(Err(e)) => Step::Done(Err(e)),
         }
     }
 
     #[tactic(auto, unfolding(reference::specs::Acquire::acquire_lost))]
     fn lost(
-        port: Port,
-        hw: u32,
+        call: HoldCall,
         left: u32,
         granted: Result<bool, Error>,
     ) -> Step<Action, Hold, Result<(), Error>>
-        ensures { (b : List ℕ) → told_hold port hw b result ≡ acquire_lost granted (acquire_times port hw left) }
+        ensures { (b : List ℕ) → told_hold call.port call.hw b result ≡ acquire_lost granted (acquire_times call.port call.hw left) }
     {
         match granted {
             Err(e) => Step::Done(Err(e)),
@@ -190,24 +189,23 @@ impl Hold {
 
     // release's bits, also where the token could not be given back
     #[tactic(auto, unfolding(reference::specs::Acquire::release_rest, reference::specs::Hostif::token))]
-    fn rest(port: Port, hw: u32, token: Result<(), Error>) -> Step<Action, Hold, Result<(), Error>>
-        ensures { (b : List ℕ) → told_hold port hw b result ≡ release_rest port hw token }
+    fn rest(call: HoldCall, token: Result<(), Error>) -> Step<Action, Hold, Result<(), Error>>
+        ensures { (b : List ℕ) → told_hold call.port call.hw b result ≡ release_rest call.port call.hw token }
     {
-        if hw == 0 {
+        if call.hw == 0 {
             Step::Done(token)
         } else {
-            Hold::returned(port, hw, token, Sync::give(port, hw))
+            Hold::returned(call, token, Sync::give(call.port, call.hw))
         }
     }
 
     #[tactic(auto, unfolding(reference::specs::Hostif::token))]
     fn returned(
-        port: Port,
-        hw: u32,
+        call: HoldCall,
         token: Result<(), Error>,
         step: Step<Action, Sync, Result<(), Error>>,
     ) -> Step<Action, Hold, Result<(), Error>>
-        ensures { (b : List ℕ) → told_hold port hw b result ≡ hold_returned token (told_sync hw step) }
+        ensures { (b : List ℕ) → told_hold call.port call.hw b result ≡ hold_returned token (told_sync call.hw step) }
     {
         match step {
             Step::Ask(a, s) => Step::Ask(a, Hold::Bits(BitsPlace::Giving(token), s)),
@@ -217,15 +215,14 @@ impl Hold {
     }
 
     fn gave(
-        port: Port,
-        hw: u32,
+        call: HoldCall,
         step: Step<Action, Command, Result<bool, Error>>,
     ) -> Step<Action, Hold, Result<(), Error>>
-        ensures { (b : List ℕ) → told_hold port hw b result ≡ hold_given port hw (told_token port false b step) }
+        ensures { (b : List ℕ) → told_hold call.port call.hw b result ≡ hold_given call.port call.hw (told_token call.port false b step) }
     {
         match step {
             Step::Ask(a, s) => Step::Ask(a, Hold::Token(TokenPlace::Giving, s)),
-            Step::Done(given) => Hold::rest(port, hw, given.map(|_| ())),
+            Step::Done(given) => Hold::rest(call, given.map(|_| ())),
         }
     }
 
@@ -268,69 +265,66 @@ impl Hold {
     {
         let hw = mask & !Hold::TOKEN;
         if mask & Hold::TOKEN == 0 {
-            Hold::rest(port, hw, Ok(()))
+            Hold::rest(HoldCall { port, hw }, Ok(()))
         } else {
             let token = Token { take: false };
             let step = token.start(port, block);
-            Hold::gave(port, hw, step)
+            Hold::gave(HoldCall { port, hw }, step)
         }
     }
 
     pub fn bits(
-        port: Port,
-        hw: u32,
+        call: HoldCall,
         block: &mut [u32; 16],
         place: BitsPlace,
         step: Step<Action, Sync, Result<(), Error>>,
     ) -> Step<Action, Hold, Result<(), Error>>
-        ensures { told_hold port hw block.new result ≡ hold_bits port hw place (told_sync hw step) }
+        ensures { told_hold call.port call.hw block.new result ≡ hold_bits call.port call.hw place (told_sync call.hw step) }
     {
         match place {
-            BitsPlace::Plain => Hold::plain(port, hw, step),
-            BitsPlace::Taking(left) => Hold::taken(port, hw, block, left, step),
-            BitsPlace::Freeing(left, granted) => Hold::freed(port, hw, left, granted, step),
-            BitsPlace::Giving(token) => Hold::returned(port, hw, token, step),
+            BitsPlace::Plain => Hold::plain(call, step),
+            BitsPlace::Taking(left) => Hold::taken(call, block, left, step),
+            BitsPlace::Freeing(left, granted) => Hold::freed(call, left, granted, step),
+            BitsPlace::Giving(token) => Hold::returned(call, token, step),
         }
     }
 
     // What is made of the token's command.
     #[tactic(auto, using(hardware::proofs::Laws::then_assoc))]
     pub fn commanded(
-        port: Port,
-        hw: u32,
+        call: HoldCall,
         place: TokenPlace,
         step: Step<Action, Command, Result<u32, Error>>,
     ) -> Step<Action, Hold, Result<(), Error>>
-        ensures { (b : List ℕ) → told_hold port hw b result ≡ hold_token port hw place (token_after (takes place) (told_command port (take 2 b) step)) }
+        ensures { (b : List ℕ) → told_hold call.port call.hw b result ≡ hold_token call.port call.hw place (token_after (takes place) (told_command call.port (take 2 b) step)) }
     {
         match place {
             TokenPlace::Taking(left) => {
                 let token = Token { take: true };
-                Hold::asked(port, hw, left, token.after_command(port, step))
+                Hold::asked(call, left, token.after_command(call.port, step))
             }
             TokenPlace::Giving => {
                 let token = Token { take: false };
-                Hold::gave(port, hw, token.after_command(port, step))
+                Hold::gave(call, token.after_command(call.port, step))
             }
         }
     }
 
     pub fn next(
         self,
-        port: Port,
-        hw: u32,
+        call: HoldCall,
         block: &mut [u32; 16],
         reply: Reply,
     ) -> Step<Action, Hold, Result<(), Error>>
-        ensures { told_hold port hw block.new result ≡ resume_hold port hw self block.old reply }
+        ensures { told_hold call.port call.hw block.new result ≡ resume_hold call.port call.hw self block.old reply }
     {
         match self {
-            Hold::Bits(place, s) => Hold::bits(port, hw, block, place, s.next(hw, reply)),
+            Hold::Bits(place, s) => Hold::bits(call, block, place, s.next(call.hw, reply)),
             Hold::Token(place, s) => {
-                let step = s.next_of(2, port, block, reply);
-                Hold::commanded(port, hw, place, step)
+                let step = s.next_of(2, call.port, block, reply);
+                Hold::commanded(call, place, step)
             }
-            Hold::Pausing(left) => Hold::again(port, hw, block, left),
+            Hold::Pausing(left) => Hold::again(call, block, left),
         }
     }
 }

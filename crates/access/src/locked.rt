@@ -9,10 +9,17 @@ ghost use Rattle.access.specs.Hold.{told_hold};
 ghost use Rattle.access.specs.Locked.{locked_talk, locked_acquired, locked_after_body, locked_released, locked_held, zeroed, resume_locked, told_locked};
 
 use crate::body::{Body, Held};
-use crate::hold::Hold;
+use crate::hold::{Hold, HoldCall};
 use drive::machine::Machine;
 use hardware::{Action, Error, Port, Reply, Step};
 use hostif::command::both;
+
+// What `locked` is given, at each reply too.
+#[derive(Clone, Copy)]
+pub struct LockedCall {
+    pub port: Port,
+    pub mask: u32,
+}
 
 // Why acquire or release runs.
 #[derive(Clone, Copy)]
@@ -35,11 +42,10 @@ pub enum Locked {
 impl Locked {
     // acquire or release by itself; it gives 0
     pub fn alone(
-        port: Port,
-        mask: u32,
+        call: LockedCall,
         step: Step<Action, Hold, Result<(), Error>>,
     ) -> Step<Action, Locked, Result<u32, Error>>
-        ensures { (b : List ℕ) → told_locked port mask b result ≡ zeroed (told_hold port (hw_of mask) b step) }
+        ensures { (b : List ℕ) → told_locked call.port call.mask b result ≡ zeroed (told_hold call.port (hw_of call.mask) b step) }
     {
         match step {
             Step::Ask(a, s) => Step::Ask(a, Locked::Hold(HoldPlace::Alone, s)),
@@ -48,19 +54,18 @@ impl Locked {
     }
 
     fn acquired(
-        port: Port,
-        mask: u32,
+        call: LockedCall,
         held: Held,
         block: &mut [u32; 16],
         step: Step<Action, Hold, Result<(), Error>>,
     ) -> Step<Action, Locked, Result<u32, Error>>
-        ensures { told_locked port mask block.new result ≡ locked_acquired port mask held (told_hold port (hw_of mask) block.old step) }
+        ensures { told_locked call.port call.mask block.new result ≡ locked_acquired call.port call.mask held (told_hold call.port (hw_of call.mask) block.old step) }
     {
         match step {
             Step::Ask(a, s) => Step::Ask(a, Locked::Hold(HoldPlace::Acquiring(held), s)),
             Step::Done(Ok(())) => {
                 let step = Body::start(held, block);
-                Locked::after_body(port, mask, block, step)
+                Locked::after_body(call, block, step)
             }
             Step::Done(Err(e)) => Step::Done(Err(e)),
         }
@@ -68,29 +73,27 @@ impl Locked {
 
     // Whatever the body gave, the mask is given back.
     pub fn after_body(
-        port: Port,
-        mask: u32,
+        call: LockedCall,
         block: &mut [u32; 16],
         step: Step<Action, Body, Result<u32, Error>>,
     ) -> Step<Action, Locked, Result<u32, Error>>
-        ensures { told_locked port mask block.new result ≡ locked_after_body port mask (told_body block.old step) }
+        ensures { told_locked call.port call.mask block.new result ≡ locked_after_body call.port call.mask (told_body block.old step) }
     {
         match step {
             Step::Ask(a, s) => Step::Ask(a, Locked::Body(s)),
             Step::Done(result) => {
-                let step = Hold::release(port, mask, block);
-                Locked::released(port, mask, result, step)
+                let step = Hold::release(call.port, call.mask, block);
+                Locked::released(call, result, step)
             }
         }
     }
 
     fn released(
-        port: Port,
-        mask: u32,
+        call: LockedCall,
         res: Result<u32, Error>,
         step: Step<Action, Hold, Result<(), Error>>,
     ) -> Step<Action, Locked, Result<u32, Error>>
-        ensures { (b : List ℕ) → told_locked port mask b result ≡ locked_released res (told_hold port (hw_of mask) b step) }
+        ensures { (b : List ℕ) → told_locked call.port call.mask b result ≡ locked_released res (told_hold call.port (hw_of call.mask) b step) }
     {
         match step {
             Step::Ask(a, s) => Step::Ask(a, Locked::Hold(HoldPlace::Releasing(res), s)),
@@ -99,46 +102,48 @@ impl Locked {
     }
 
     // At its first action, acquire's read of SWSM.
-    pub fn first(port: Port, mask: u32, held: Held, block: &mut [u32; 16]) -> Locked
-        ensures { locked_talk port mask held ≡ ask (Read (regs port.family).swsm) (λ x. resume_locked port mask result block.new x) }
+    pub fn first(call: LockedCall, held: Held, block: &mut [u32; 16]) -> Locked
+        ensures { locked_talk call.port call.mask held ≡ ask (Read (regs call.port.family).swsm) (λ x. resume_locked call.port call.mask result block.new x) }
     {
-        let state = Hold::first(port, mask, block);
+        let state = Hold::first(call.port, call.mask, block);
         Locked::Hold(HoldPlace::Acquiring(held), state)
     }
 
     pub fn held(
-        port: Port,
-        mask: u32,
+        call: LockedCall,
         block: &mut [u32; 16],
         place: HoldPlace,
         step: Step<Action, Hold, Result<(), Error>>,
     ) -> Step<Action, Locked, Result<u32, Error>>
-        ensures { told_locked port mask block.new result ≡ locked_held port mask place (told_hold port (hw_of mask) block.old step) }
+        ensures { told_locked call.port call.mask block.new result ≡ locked_held call.port call.mask place (told_hold call.port (hw_of call.mask) block.old step) }
     {
         match place {
-            HoldPlace::Alone => Locked::alone(port, mask, step),
-            HoldPlace::Acquiring(held) => Locked::acquired(port, mask, held, block, step),
-            HoldPlace::Releasing(result) => Locked::released(port, mask, result, step),
+            HoldPlace::Alone => Locked::alone(call, step),
+            HoldPlace::Acquiring(held) => Locked::acquired(call, held, block, step),
+            HoldPlace::Releasing(result) => Locked::released(call, result, step),
         }
     }
 
     pub fn next(
         self,
-        port: Port,
-        mask: u32,
+        call: LockedCall,
         block: &mut [u32; 16],
         reply: Reply,
     ) -> Step<Action, Locked, Result<u32, Error>>
-        ensures { told_locked port mask block.new result ≡ resume_locked port mask self block.old reply }
+        ensures { told_locked call.port call.mask block.new result ≡ resume_locked call.port call.mask self block.old reply }
     {
         match self {
             Locked::Hold(place, s) => {
-                let step = s.next(port, mask & !Hold::TOKEN, block, reply);
-                Locked::held(port, mask, block, place, step)
+                let hold = HoldCall {
+                    port: call.port,
+                    hw: call.mask & !Hold::TOKEN,
+                };
+                let step = s.next(hold, block, reply);
+                Locked::held(call, block, place, step)
             }
             Locked::Body(s) => {
                 let step = s.next(block, reply);
-                Locked::after_body(port, mask, block, step)
+                Locked::after_body(call, block, step)
             }
         }
     }

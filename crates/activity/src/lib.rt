@@ -5,7 +5,7 @@ ghost use Rattle.std.specs.Prelude.{◌≤◌, ◌≡◌, get_or, length, take};
 ghost use Rattle.reference.specs.Hostif.{activity_times, activity_words};
 ghost use Rattle.activity.specs.Activity.{block_of, activity_of, activity_got, begun_activity, resume_activity, told_activity};
 
-use access::access::Job;
+use access::access::{Ended, Job};
 use answers::Words;
 use hardware::{Error, Port, Step};
 use words::hostif::swap_bytes;
@@ -97,17 +97,16 @@ impl Activity {
         port: Port,
         block: &[u32; 16],
         left: u32,
-        got: Result<u32, Error>,
-        words: usize,
+        given: Ended<u32>,
     ) -> Step<Job, Activity, Result<Words, Error>>
-        ensures { told_activity port asked block.now result ≡ activity_got port asked left got (take words block.now) }
+        ensures { told_activity port asked block.now result ≡ activity_got port asked left given.answer (take given.words block.now) }
     {
-        match got {
+        match given.answer {
             Err(e) => Step::Done(Err(e)),
             Ok(v) => {
                 let status = (v % 256) as u8;
                 if status == Activity::OK {
-                    Step::Done(Ok(Activity::found(block, words)))
+                    Step::Done(Ok(Activity::found(block, given.words)))
                 } else {
                     Step::Ask(Job::Wait(20), Activity::Pausing(left, status))
                 }
@@ -135,20 +134,18 @@ impl Activity {
         Activity::again(asked, port, block, 50, 0)
     }
 
-    // `got` is what the job gave, with so many words of the block.
     pub fn next(
         self,
         asked: Asked,
         port: Port,
         block: &mut [u32; 16],
-        got: Result<u32, Error>,
-        words: usize,
+        given: Ended<u32>,
     ) -> Step<Job, Activity, Result<Words, Error>>
-        ensures { told_activity port asked block.new result ≡ resume_activity port asked self got (take words block.old) }
+        ensures { told_activity port asked block.new result ≡ resume_activity port asked self given.answer (take given.words block.old) }
     {
         match self {
-            Activity::Exchanging(left) => Activity::answered(asked, port, block, left, got, words),
-            Activity::Pausing(left, status) => match got {
+            Activity::Exchanging(left) => Activity::answered(asked, port, block, left, given),
+            Activity::Pausing(left, status) => match given.answer {
                 Err(e) => Step::Done(Err(e)),
                 Ok(_) => Activity::again(asked, port, block, left, status),
             },

@@ -10,7 +10,8 @@ use Rattle.hardware.specs.declared.Error.{Error}
 use Rattle.hardware.specs.declared.Error.TheVariants.{Io, Removed, Timeout, Sideband, Semaphore, HostInterface, Firmware, NoPhy, PhyReset, Lan, Fiber, Address, Block}
 use Rattle.hardware.specs.declared.Action.{Action}
 use Rattle.hardware.specs.declared.Step.{Step}
-use Rattle.operations.specs.declared.Ended.{Ended}
+use Rattle.access.specs.declared.access.Ended.{Ended}
+use Rattle.answers.specs.declared.Value.{Value}
 use Rattle.packed.proofs.Width.Hardware.{family_length}
 use Rattle.conversation.specs.Conversation.{number}
 use Rattle.conversation.specs.declared.conversation.Conversation.{Conversation}
@@ -26,7 +27,7 @@ unfolding words_of
 words_of-length c = simp (length-append, family_length, place_length)
 
 -- the last part, with nothing behind it
-pub place_back : (p : Step Action Op Ended) → ((rest : List ℕ) → get_place (words_place p ++ rest) ≡ p) → get_place (words_place p) ≡ p
+pub place_back : (p : Step Action Op (Ended Value)) → ((rest : List ℕ) → get_place (words_place p ++ rest) ≡ p) → get_place (words_place p) ≡ p
 place_back p h = ap get_place (sym (append-nil (words_place p))) ∙ h []
 
 -- no error has the number 0

@@ -91,7 +91,7 @@ resume_bringup managed (bringup.Sel kr) got ws = got_sel managed kr got
 resume_bringup managed (bringup.Mmngc l) got ws = got_mmngc managed.port l got
 resume_bringup managed (bringup.Kr s) got ws = kr_then managed.port (resume_sequence managed.port s got)
 resume_bringup managed (bringup.Sgmii s) got ws = answer553 (resume_sgmii managed.port s got)
-resume_bringup managed (bringup.Link x s) got ws = link_then managed.port (resume_link managed x s got)
+resume_bringup managed (bringup.Link x s) got ws = link_then managed.port (resume_link (record { managed = managed; x557 = x }) s got)
 resume_bringup managed (bringup.SetupFirmware s) got ws = answer553 (resume_firmware managed.port s got ws)
 
 abbrev pub told_bringup : Managed → List ℕ → Step Job Bringup (Res Value) → Call Value

@@ -15,12 +15,12 @@ ghost use Rattle.x553.specs.Prepare as firmware;
 ghost use Rattle.x553.specs.Sgmii.{told_sgmii};
 ghost use Rattle.bringup.specs.Bringup.{kr_value, veto_value, copper_value, lane_talk, vetoed_talk, devices_of, kr_then, answer553, link_then, copper_then, firmware_then, clock_then, got_mmngc, got_sel, resume_bringup, told_bringup};
 
-use access::access::Job;
+use access::access::{Ended, Job};
 use answers::{CopperSetup, FirmwareSetup, Setup552, Setup553, SgmiiSetup, Value, X557};
 use hardware::{Error, Family, Managed, Port, Step};
 use kr::sequence::{KrPlace, Sequence};
 use phy::clock::Clock;
-use x552::link::CopperLink;
+use x552::link::{CopperCall, CopperLink};
 use x552::prepare::{Phy, PrepareCopper};
 use x553::firmware::SetupFirmware;
 use x553::prepare::{FirmwarePrepared, PrepareFirmware};
@@ -174,16 +174,15 @@ impl Bringup {
 
     #[tactic(auto, using(hardware::proofs::Laws::then_assoc))]
     fn after_link(
-        managed: Managed,
-        x557: X557,
+        call: CopperCall,
         step: Step<Job, CopperLink, Result<CopperSetup, Error>>,
     ) -> Step<Job, Bringup, Result<Value, Error>>
-        ensures { (b : List ℕ) → told_bringup managed b result ≡ link_then managed.port (told_link managed x557 b step) }
+        ensures { (b : List ℕ) → told_bringup call.managed b result ≡ link_then call.managed.port (told_link call b step) }
     {
         match step {
-            Step::Ask(job, s) => Step::Ask(job, Bringup::Link(x557, s)),
+            Step::Ask(job, s) => Step::Ask(job, Bringup::Link(call.x557, s)),
             Step::Done(Err(e)) => Step::Done(Err(e)),
-            Step::Done(Ok(set)) => Step::Done(Ok(copper_value(managed.port.family, set))),
+            Step::Done(Ok(set)) => Step::Done(Ok(copper_value(call.managed.port.family, set))),
         }
     }
 
@@ -198,8 +197,8 @@ impl Bringup {
             Step::Ask(job, s) => Step::Ask(job, Bringup::Copper(s)),
             Step::Done(Err(e)) => Step::Done(Err(e)),
             Step::Done(Ok(x557)) => {
-                let step = CopperLink::start(managed, x557);
-                Bringup::after_link(managed, x557, step)
+                let call = CopperCall { managed, x557 };
+                Bringup::after_link(call, CopperLink::start(call))
             }
         }
     }
@@ -341,31 +340,30 @@ impl Bringup {
         self,
         managed: Managed,
         block: &mut [u32; 16],
-        got: Result<u32, Error>,
-        words: usize,
+        given: Ended<u32>,
     ) -> Step<Job, Bringup, Result<Value, Error>>
-        ensures { told_bringup managed block.new result ≡ resume_bringup managed self got (take words block.old) }
+        ensures { told_bringup managed block.new result ≡ resume_bringup managed self given.answer (take given.words block.old) }
     {
         match self {
             Bringup::Clock(fast, s) => {
-                let step = s.next(fast, managed.port, got);
+                let step = s.next(fast, managed.port, given.answer);
                 Bringup::after_clock(managed, block, fast, step)
             }
-            Bringup::Copper(s) => Bringup::after_copper(managed, s.next(managed, got)),
+            Bringup::Copper(s) => Bringup::after_copper(managed, s.next(managed, given.answer)),
             Bringup::Firmware(s) => {
-                let step = s.next(managed, block, got, words);
+                let step = s.next(managed, block, given);
                 Bringup::after_firmware(managed, step)
             }
-            Bringup::Sel(kr) => Bringup::after_sel(managed, kr, got),
-            Bringup::Mmngc(lane) => Bringup::after_mmngc(managed, lane, got),
-            Bringup::Kr(s) => Bringup::after_kr(managed, s.next(managed.port, got)),
-            Bringup::Sgmii(s) => Bringup::after_sgmii(managed, s.next(managed.port, got)),
+            Bringup::Sel(kr) => Bringup::after_sel(managed, kr, given.answer),
+            Bringup::Mmngc(lane) => Bringup::after_mmngc(managed, lane, given.answer),
+            Bringup::Kr(s) => Bringup::after_kr(managed, s.next(managed.port, given.answer)),
+            Bringup::Sgmii(s) => Bringup::after_sgmii(managed, s.next(managed.port, given.answer)),
             Bringup::Link(x557, s) => {
-                let step = s.next(managed, x557, got);
-                Bringup::after_link(managed, x557, step)
+                let call = CopperCall { managed, x557 };
+                Bringup::after_link(call, s.next(call, given.answer))
             }
             Bringup::SetupFirmware(s) => {
-                let step = s.next(managed.port, block, got, words);
+                let step = s.next(managed.port, block, given);
                 Bringup::after_set(managed, step)
             }
         }

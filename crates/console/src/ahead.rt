@@ -5,24 +5,29 @@ use std::io;
 use std::io::Write;
 use streams::batch::{behind_used, first, print_lines, read_ahead};
 use streams::input::Input;
+use streams::output::Waiting;
 
-// The conversation as it is then, what is left of the input, and how many bytes wait to be written.
+// The conversation as it is then, and what is left of the input.
 #[derive(Clone, Copy)]
 pub struct Moved {
     pub to: Conversation,
     pub input: Input,
-    pub n: usize,
 }
 
-pub fn ahead<W: Write>(from: Moved, buf: &[u8], sink: &mut W, out: &mut [u8]) -> io::Result<Moved> {
+pub fn ahead<W: Write>(
+    from: Moved,
+    buf: &[u8],
+    sink: &mut W,
+    waiting: &mut Waiting,
+) -> io::Result<Moved> {
     let mut words = [0u32; 128];
     let mut behind = [0usize; 64];
     let mut t = [0u32; 384];
     let count = read_ahead(buf, from.input, &mut words, &mut behind);
     let ran = run(from.to, first(&words, count), &mut t, 0);
+    print_lines(&t, ran.at, sink, waiting)?;
     Ok(Moved {
         to: ran.to,
         input: behind_used(from.input, &behind, ran.used),
-        n: print_lines(&t, ran.at, sink, out, from.n)?,
     })
 }

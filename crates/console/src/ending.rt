@@ -5,23 +5,23 @@ use hardware::Error;
 use std::io;
 use std::io::Write;
 use streams::ending::{last, print_left};
+use streams::output::Waiting;
 
 // The host block as an ended `command` leaves it, after errors too. The listing has it after `end ok` alone.
 fn left<W: Write>(
     c: Conversation,
     words: usize,
     sink: &mut W,
-    out: &mut [u8],
-    n: usize,
-) -> io::Result<usize> {
+    waiting: &mut Waiting,
+) -> io::Result<()> {
     if words == 0 || words > 16 {
-        return Ok(n);
+        return Ok(());
     }
     let mut host = [0u32; 16];
     if c.hand_back(&mut host[..words]).is_err() {
-        return Ok(n);
+        return Ok(());
     }
-    print_left(host, words as u32, sink, out, n)
+    print_left(host, words as u32, sink, waiting)
 }
 
 // The last line, and the host block's where it is asked for.
@@ -31,12 +31,11 @@ pub fn ended<W: Write>(
     c: Conversation,
     asked: bool,
     sink: &mut W,
-    out: &mut [u8],
-    n: usize,
-) -> io::Result<usize> {
-    let end = last(answer, c.block, c.actions, c.micros, sink, out, n)?;
+    waiting: &mut Waiting,
+) -> io::Result<()> {
+    last(answer, c.block, c.actions, c.micros, sink, waiting)?;
     if asked {
-        return left(c, words, sink, out, end);
+        return left(c, words, sink, waiting);
     }
-    Ok(end)
+    Ok(())
 }

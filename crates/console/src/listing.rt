@@ -3,7 +3,7 @@ ghost use Rattle.std.specs.Prelude.{◌≡◌, take};
 ghost use Rattle.conversation.specs.Conversation.{conv_of, begun};
 
 use crate::ahead::Moved;
-use crate::talk::{Listed, talk};
+use crate::talk::talk;
 use conversation::conversation::Conversation;
 use hardware::Port;
 use lines::port::port_line;
@@ -13,6 +13,7 @@ use std::io::{Read, Write};
 use streams::due::Fault;
 use streams::ending::stop;
 use streams::input::{Fetched, Input, fetch};
+use streams::output::Waiting;
 use streams::part::line_of;
 use trace::operation::operation_line;
 
@@ -32,33 +33,31 @@ fn opened<R: Read, W: Write>(
     buf: &mut [u8],
     input: Input,
     sink: &mut W,
-    out: &mut [u8],
-    n: usize,
+    waiting: &mut Waiting,
     asked: bool,
-) -> io::Result<Listed> {
+) -> io::Result<Input> {
     let (Some(port), Some((operation, words))) = (port, what) else {
-        let end = stop(Fault::BadLine.number(), 0, 0, sink, out, n)?;
-        return Ok(Listed { input, n: end });
+        stop(Fault::BadLine.number(), 0, 0, sink, waiting)?;
+        return Ok(input);
     };
     let to = begin(port, operation, args, words);
-    talk(Moved { to, input, n }, source, buf, sink, out, asked)
+    talk(Moved { to, input }, source, buf, sink, waiting, asked)
 }
 
-// The listing of one input, behind the n bytes that wait in `out`. Both lines are read before anything else. Where it is
-// asked for, a line with the host block that a `command` leaves follows.
+// The listing of one input, behind the bytes that wait; answers what is left of the input. Both lines are read before
+// anything else. Where it is asked for, a line with the host block that a `command` leaves follows.
 pub fn listing<R: Read, W: Write>(
     source: &mut R,
     buf: &mut [u8],
     input: Input,
     sink: &mut W,
-    out: &mut [u8],
-    n: usize,
+    waiting: &mut Waiting,
     asked: bool,
-) -> io::Result<Listed> {
+) -> io::Result<Input> {
     let mut args = [0u32; 17];
     let Fetched { next, input } = fetch(source, buf, input);
     let port = port_line(line_of(buf, next));
     let Fetched { next, input } = fetch(source, buf, input);
     let what = operation_line(line_of(buf, next), &mut args);
-    opened(port, what, &args, source, buf, input, sink, out, n, asked)
+    opened(port, what, &args, source, buf, input, sink, waiting, asked)
 }

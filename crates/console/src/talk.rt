@@ -10,14 +10,7 @@ use std::io::{Read, Write};
 use streams::due::{Answered, answer};
 use streams::ending::stop;
 use streams::input::Input;
-use streams::output::print;
-
-// What is left of the input behind a listing, and how many bytes wait to be written.
-#[derive(Clone, Copy)]
-pub struct Listed {
-    pub input: Input,
-    pub n: usize,
-}
+use streams::output::Waiting;
 
 // Where a listing has come to, and the number that it stops with, or nothing while it goes on.
 #[derive(Clone, Copy)]
@@ -32,16 +25,12 @@ fn act<W: Write>(
     input: Input,
     (kind, value): (u32, u32),
     sink: &mut W,
-    out: &mut [u8],
-    n: usize,
+    waiting: &mut Waiting,
 ) -> io::Result<Moved> {
     let mut line = Line::new();
     let Turned { to, .. } = turn(c, &[kind, value], &mut line);
-    Ok(Moved {
-        to,
-        input,
-        n: print(sink, out, n, line.as_slice())?,
-    })
+    waiting.print(sink, line.as_slice())?;
+    Ok(Moved { to, input })
 }
 
 // One action, whose reply is fetched; then what the replies in the buffer answer.
@@ -50,7 +39,7 @@ fn onward<R: Read, W: Write>(
     source: &mut R,
     buf: &mut [u8],
     sink: &mut W,
-    out: &mut [u8],
+    waiting: &mut Waiting,
 ) -> io::Result<Came> {
     let Step::Ask(a, _) = from.to.place else {
         return Ok(Came {
@@ -69,24 +58,29 @@ fn onward<R: Read, W: Write>(
             });
         }
     };
-    let one = act(from.to, input, pair, sink, out, from.n)?;
+    let one = act(from.to, input, pair, sink, waiting)?;
     Ok(Came {
-        moved: ahead(one, buf, sink, out)?,
+        moved: ahead(one, buf, sink, waiting)?,
         number: None,
     })
 }
 
-// The last lines.
-fn finish<W: Write>(at: Came, sink: &mut W, out: &mut [u8], asked: bool) -> io::Result<Listed> {
-    let Moved { to: c, input, n } = at.moved;
-    let n = match c.place {
-        Step::Done(end) => ended(end.answer, end.words, c, asked, sink, out, n)?,
+// The last lines; answers what is left of the input.
+fn finish<W: Write>(
+    at: Came,
+    sink: &mut W,
+    waiting: &mut Waiting,
+    asked: bool,
+) -> io::Result<Input> {
+    let Moved { to: c, input } = at.moved;
+    match c.place {
+        Step::Done(end) => ended(end.answer, end.words, c, asked, sink, waiting)?,
         Step::Ask(_, _) => {
             let number = at.number.unwrap_or(0);
-            stop(number, c.actions, c.micros, sink, out, n)?
+            stop(number, c.actions, c.micros, sink, waiting)?
         }
-    };
-    Ok(Listed { input, n })
+    }
+    Ok(input)
 }
 
 // No conversation is as long as the turns that are counted.
@@ -95,9 +89,9 @@ pub fn talk<R: Read, W: Write>(
     source: &mut R,
     buf: &mut [u8],
     sink: &mut W,
-    out: &mut [u8],
+    waiting: &mut Waiting,
     asked: bool,
-) -> io::Result<Listed> {
+) -> io::Result<Input> {
     let mut at = Came {
         moved: from,
         number: None,
@@ -106,7 +100,7 @@ pub fn talk<R: Read, W: Write>(
         if at.number.is_some() {
             break;
         }
-        at = onward(at.moved, source, buf, sink, out)?;
+        at = onward(at.moved, source, buf, sink, waiting)?;
     }
-    finish(at, sink, out, asked)
+    finish(at, sink, waiting, asked)
 }

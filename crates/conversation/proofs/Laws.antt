@@ -31,7 +31,8 @@ use Rattle.conversation.specs.declared.conversation.Stop.TheVariants.{Done, Afte
 use Rattle.conversation.specs.declared.conversation.Conversation as code
 use Rattle.start.specs.declared.operation.Operation.{Operation}
 use Rattle.hardware.specs.declared.Step.{Step}
-use Rattle.operations.specs.declared.Ended.{Ended}
+use Rattle.access.specs.declared.access.Ended.{Ended}
+use Rattle.answers.specs.declared.Value.{Value}
 use Rattle.started.specs.declared.operation.Op.{Op}
 use Rattle.conversation.specs.declared.run.Ran.{Ran}
 
@@ -49,8 +50,8 @@ not_refused port what ws block {t} p d r b e =
     ap (opening port) says ∙ rw (p, d, r)
 
 -- what a conversation says where it stands at a place that is known
-pub at_place : (c : code.Conversation) {p : Step Action Op Ended} → c.place ≡ p → (conv_of c).talk ≡ told c.port p c.block
-at_place c e = ap (λ (p : Step Action Op Ended). told c.port p c.block) e
+pub at_place : (c : code.Conversation) {p : Step Action Op (Ended Value)} → c.place ≡ p → (conv_of c).talk ≡ told c.port p c.block
+at_place c e = ap (λ (p : Step Action Op (Ended Value)). told c.port p c.block) e
 
 -- a step of a conversation that asks for an action
 module _ (c : Conv) (kind value : ℕ) {a : Action} {k : Reply → Talk Out} (e : c.talk ≡ ask a k) where

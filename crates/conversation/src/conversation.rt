@@ -6,10 +6,11 @@ ghost use Rattle.conversation.specs.Conversation.{conv_of, gone, opening, padded
 ghost use Rattle.start.specs.First.{told_first};
 ghost use Rattle.started.specs.Operation.{resume_op, told};
 
+use access::access::Ended;
 use answers::Value;
 use drive::{reply_of, uses_of, waited_of};
 use hardware::{Action, Error, Port, Reply, Step};
-use operations::{After, Ended};
+use operations::After;
 use run_access::lent::Lent;
 use start::operation::Operation;
 use start::start::{First, start};
@@ -20,7 +21,7 @@ use watch::store::{Left, Watch};
 #[derive(Clone, Copy)]
 pub struct Conversation {
     pub port: Port,
-    pub place: Step<Action, Op, Ended>,
+    pub place: Step<Action, Op, Ended<Value>>,
     // in fixed memory; how many of its words are an answer's stands in `place`
     pub block: [u32; 16],
     pub actions: u64,
@@ -91,7 +92,7 @@ fn give_first(own: &[u32], words: usize, block: &mut [u32]) -> Result<(), Error>
 
 // The place of an operation's first step.
 #[tactic(auto, using(hardware::proofs::Laws::then_assoc))]
-fn placed(port: Port, block: &mut [u32; 16], first: First) -> Step<Action, Op, Ended>
+fn placed(port: Port, block: &mut [u32; 16], first: First) -> Step<Action, Op, Ended<Value>>
     ensures { told port result block.new ≡ told_first port block.old first }
 {
     match first {

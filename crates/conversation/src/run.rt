@@ -6,9 +6,10 @@ ghost use Rattle.conversation.specs.Conversation.{conv_of};
 ghost use Rattle.conversation.specs.Run.{shown_of, reached_of, run_on, run_into, bad, run_all};
 
 use crate::conversation::{Conversation, Stop};
+use access::access::Ended;
+use answers::Value;
 use drive::{Host, act};
 use hardware::{Action, Port, Step};
-use operations::Ended;
 use run_access::lent;
 use run_access::lent::Lent;
 use started::operation::Op;
@@ -27,19 +28,19 @@ pub struct Ran {
 #[derive(Clone, Copy)]
 struct Reached {
     stop: Stop,
-    place: Step<Action, Op, Ended>,
+    place: Step<Action, Op, Ended<Value>>,
 }
 
 // As far as accesses go by themselves, one after the other.
 #[tactic(auto, using(drive::specs::Moves::stays, started::proofs::Laws::told_at, drive::proofs::Laws::from_as))]
 fn ahead(
-    place: Step<Action, Op, Ended>,
+    place: Step<Action, Op, Ended<Value>>,
     port: Port,
     block: &mut [u32; 16],
     h: &mut Host,
     replies: &[u32],
     t: &mut [u32],
-) -> Step<Action, Op, Ended>
+) -> Step<Action, Op, Ended<Value>>
     ensures { Moves replies.now (told port place block.old) (tape h.old t.old) (told port result block.new) (tape h.new t.new) }
 {
     match place {
@@ -51,7 +52,7 @@ fn ahead(
 // The run's loop: as far as accesses go by themselves, then one action, from where the last turn came.
 #[tactic(auto, using(drive::specs::Moves::stays, drive::proofs::Laws::act_short, drive::proofs::Laws::act_done, drive::proofs::Laws::then, drive::proofs::Laws::moves_less, drive::proofs::Laws::moves_within, crate::proofs::Laws::run_ended, crate::proofs::Laws::run_full, crate::proofs::Laws::run_dry))]
 fn run_from(
-    from: Step<Action, Op, Ended>,
+    from: Step<Action, Op, Ended<Value>>,
     port: Port,
     block: &mut [u32; 16],
     h: &mut Host,

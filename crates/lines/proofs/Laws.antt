@@ -1,11 +1,10 @@
 -- What the calls of `text` say of a word that was found
 use Prim.Native.Nat.{ℕ, ◌<◌}
-use mathlib.Core.Path.{◌≡◌, ap, sym, ◌∙◌}
+use mathlib.Core.Path.{◌≡◌, sym, ◌∙◌}
 use mathlib.Core.Bool.{Bool, true, false, cond}
 use mathlib.Core.List.{List}
 use native.Mathlib.Omega.{arith}
-use lib.ListN.{length}
-use lib.Seq.{slice, take-length}
+use lib.Seq.{slice}
 use Rattle.std.proofs.Common.{Option, Some, None}
 use Rattle.text.specs.Hex.{hex_word, hex_part}
 use Rattle.text.specs.Same.{same, is_part}
@@ -32,7 +31,3 @@ four_below line start end {r} {n} h e = go (has_part start end line) (h ∙ e)
     go : (b : Bool) → cond b (hex_word 4 4 (slice start end line)) None ≡ Some n → n < 65536
     go true k = omega (arith, hex_below 4 4 _ _ k)
     go false k = cc
-
-pub whole_is : (l name : List ℕ) {b : Bool} → is_part l 0 (length l) name ≡ b → same l name ≡ b
-whole_is l name h =
-    ap (λ (x : List ℕ). same x name) (sym (take-length l)) ∙ sym (is_in l 0 (length l) (omega arith) (omega arith) name) ∙ h

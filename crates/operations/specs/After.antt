@@ -19,7 +19,8 @@ use Rattle.bringup.specs.Bringup.{resume_bringup}
 use Rattle.operations.specs.Kr.{resume_kr}
 use Rattle.operations.specs.Mdio.{resume_mdio}
 use Rattle.operations.specs.declared.After.{After}
-use Rattle.operations.specs.declared.Ended.{Ended}
+use Rattle.access.specs.declared.access.Ended.{Ended}
+use Rattle.answers.specs.declared.Value.{Value}
 use Rattle.operations.specs.declared.After.TheVariants as after
 
 abbrev pub after_nothing : Res ℕ → Talk Out
@@ -55,8 +56,8 @@ resume_after port (after.Bringup veto s) got ws = keep (resume_bringup (record {
 resume_after port (after.Poll w s) got ws = answer poll_value (resume_poll port w s got)
 
 -- an operation's end, with the words of the block that belong to it
-abbrev pub out : List ℕ → Ended → Out
+abbrev pub out : List ℕ → Ended Value → Out
 out b e = (e.answer, take e.words b)
 
-abbrev pub told_after : Port → List ℕ → Step Job After Ended → Talk Out
+abbrev pub told_after : Port → List ℕ → Step Job After (Ended Value) → Talk Out
 told_after port b = told_job_by (out b) port b (λ s got ws. resume_after port s got ws)

@@ -7,8 +7,8 @@ ghost use Rattle.kr.specs.Sequence.{told_sequence};
 ghost use Rattle.operations.specs.After.{after_word, told_after};
 ghost use Rattle.operations.specs.Kr.{resume_kr};
 
-use crate::{After, Ended};
-use access::access::Job;
+use crate::After;
+use access::access::{Ended, Job};
 use answers::Value;
 use hardware::{Error, Port, Step};
 use kr::modify::{Change, KrModify};
@@ -27,7 +27,7 @@ impl Kr {
         port: Port,
         change: Change,
         step: Step<Job, KrModify, Result<u32, Error>>,
-    ) -> Step<Job, After, Ended>
+    ) -> Step<Job, After, Ended<Value>>
         ensures { (b : List ℕ) → told_after port b result ≡ answer value.Word (told_modify port change b step) }
     {
         match step {
@@ -40,7 +40,7 @@ impl Kr {
     pub fn sequence(
         port: Port,
         step: Step<Job, Sequence, Result<u32, Error>>,
-    ) -> Step<Job, After, Ended>
+    ) -> Step<Job, After, Ended<Value>>
         ensures { (b : List ℕ) → told_after port b result ≡ answer value.Word (told_sequence port b step) }
     {
         match step {
@@ -50,7 +50,7 @@ impl Kr {
     }
 
     #[tactic(auto, using(hardware::proofs::Laws::then_assoc))]
-    pub fn next(self, port: Port, got: Result<u32, Error>) -> Step<Job, After, Ended>
+    pub fn next(self, port: Port, got: Result<u32, Error>) -> Step<Job, After, Ended<Value>>
         ensures { (b : List ℕ) → told_after port b result ≡ resume_kr port self got }
     {
         match self {

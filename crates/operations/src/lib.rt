@@ -18,7 +18,7 @@ ghost use Rattle.operations.specs.After.{after_abilities, after_command, after_l
 
 use crate::kr_registers::Kr;
 use crate::registers::Mdio;
-use access::access::Job;
+use access::access::{Ended, Job};
 use activity::{Activity, Asked};
 use answers::{Value, Words};
 use bringup::Bringup;
@@ -51,64 +51,60 @@ pub enum After {
     Poll(Watch, Poll),
 }
 
-// An operation's end: the answer, and how many words of the host block belong to it.
-#[derive(Clone, Copy)]
-pub struct Ended {
-    pub answer: Result<Value, Error>,
-    pub words: usize,
-}
-
 impl After {
     // An answer with no words of the block.
-    pub fn plain(answer: Result<Value, Error>) -> Step<Job, After, Ended>
+    pub fn plain(answer: Result<Value, Error>) -> Step<Job, After, Ended<Value>>
         ensures { (port : Port) (b : List ℕ) → told_after port b result ≡ end (answer, []) }
     {
         Step::Done(Ended { answer, words: 0 })
     }
 
-    pub fn nothing(port: Port, got: Result<u32, Error>) -> Step<Job, After, Ended>
+    pub fn nothing(port: Port, got: Result<u32, Error>) -> Step<Job, After, Ended<Value>>
         ensures { (b : List ℕ) → told_after port b result ≡ after_nothing got }
     {
         After::plain(got.map(|_| Value::Nothing))
     }
 
-    pub fn word(port: Port, got: Result<u32, Error>) -> Step<Job, After, Ended>
+    pub fn word(port: Port, got: Result<u32, Error>) -> Step<Job, After, Ended<Value>>
         ensures { (b : List ℕ) → told_after port b result ≡ after_word got }
     {
         After::plain(got.map(|v| Value::Word(v)))
     }
 
-    fn veto(port: Port, got: Result<u32, Error>) -> Step<Job, After, Ended>
+    fn veto(port: Port, got: Result<u32, Error>) -> Step<Job, After, Ended<Value>>
         ensures { (b : List ℕ) → told_after port b result ≡ after_veto got }
     {
         After::plain(got.map(|v| Value::Flag(v & 1 != 0)))
     }
 
     #[tactic(auto, using(reference::proofs::Hardware::linked_document))]
-    fn link(port: Port, got: Result<u32, Error>) -> Step<Job, After, Ended>
+    fn link(port: Port, got: Result<u32, Error>) -> Step<Job, After, Ended<Value>>
         ensures { (b : List ℕ) → told_after port b result ≡ after_link port got }
     {
         After::plain(got.map(|v| Value::Link(Link::of(port.family, v))))
     }
 
-    fn abilities(port: Port, got: Result<u32, Error>) -> Step<Job, After, Ended>
+    fn abilities(port: Port, got: Result<u32, Error>) -> Step<Job, After, Ended<Value>>
         ensures { (b : List ℕ) → told_after port b result ≡ after_abilities got }
     {
         After::plain(got.map(|v| Value::Abilities(speeds_of(v))))
     }
 
     // The words are those of the block, after an error too.
-    fn command(port: Port, n: u32, got: Result<u32, Error>, words: usize) -> Step<Job, After, Ended>
-        ensures { (b : List ℕ) → told_after port b result ≡ after_command n got (take words b) }
+    fn command(port: Port, n: u32, given: Ended<u32>) -> Step<Job, After, Ended<Value>>
+        ensures { (b : List ℕ) → told_after port b result ≡ after_command n given.answer (take given.words b) }
     {
-        let answer = got.map(|v| Value::Command {
+        let answer = given.answer.map(|v| Value::Command {
             status: (v % 256) as u8,
             words: n,
         });
-        Step::Done(Ended { answer, words })
+        Step::Done(Ended {
+            answer,
+            words: given.words,
+        })
     }
 
-    fn token(port: Port, take: bool, got: Result<u32, Error>) -> Step<Job, After, Ended>
+    fn token(port: Port, take: bool, got: Result<u32, Error>) -> Step<Job, After, Ended<Value>>
         ensures { (b : List ℕ) → told_after port b result ≡ answer value.Flag (token_got take got) }
     {
         let token = Token { take };
@@ -120,7 +116,7 @@ impl After {
         port: Port,
         asked: Asked,
         step: Step<Job, Activity, Result<Words, Error>>,
-    ) -> Step<Job, After, Ended>
+    ) -> Step<Job, After, Ended<Value>>
         ensures { (b : List ℕ) → told_after port b result ≡ answer value.Activity (told_activity port asked b step) }
     {
         match step {
@@ -133,7 +129,7 @@ impl After {
     pub fn bringup(
         managed: Managed,
         step: Step<Job, Bringup, Result<Value, Error>>,
-    ) -> Step<Job, After, Ended>
+    ) -> Step<Job, After, Ended<Value>>
         ensures { (b : List ℕ) → told_after managed.port b result ≡ keep (told_bringup managed b step) [] }
     {
         match step {
@@ -147,7 +143,7 @@ impl After {
         port: Port,
         watch: Watch,
         step: Step<Job, Poll, Result<Polled, Error>>,
-    ) -> Step<Job, After, Ended>
+    ) -> Step<Job, After, Ended<Value>>
         ensures { (b : List ℕ) → told_after port b result ≡ answer poll_value (told_poll port watch b step) }
     {
         match step {
@@ -168,31 +164,30 @@ impl After {
         self,
         port: Port,
         block: &mut [u32; 16],
-        got: Result<u32, Error>,
-        words: usize,
-    ) -> Step<Job, After, Ended>
-        ensures { told_after port block.new result ≡ resume_after port self got (take words block.old) }
+        given: Ended<u32>,
+    ) -> Step<Job, After, Ended<Value>>
+        ensures { told_after port block.new result ≡ resume_after port self given.answer (take given.words block.old) }
     {
         match self {
-            After::Nothing => After::nothing(port, got),
-            After::Word => After::word(port, got),
-            After::Veto => After::veto(port, got),
-            After::Link => After::link(port, got),
-            After::Abilities => After::abilities(port, got),
-            After::Command(n) => After::command(port, n, got, words),
-            After::Token(take) => After::token(port, take, got),
+            After::Nothing => After::nothing(port, given.answer),
+            After::Word => After::word(port, given.answer),
+            After::Veto => After::veto(port, given.answer),
+            After::Link => After::link(port, given.answer),
+            After::Abilities => After::abilities(port, given.answer),
+            After::Command(n) => After::command(port, n, given),
+            After::Token(take) => After::token(port, take, given.answer),
             After::Activity(asked, s) => {
-                let step = s.next(asked, port, block, got, words);
+                let step = s.next(asked, port, block, given);
                 After::activity(port, asked, step)
             }
-            After::Mdio(s) => s.next(port, got),
-            After::Kr(s) => s.next(port, got),
+            After::Mdio(s) => s.next(port, given.answer),
+            After::Kr(s) => s.next(port, given.answer),
             After::Bringup(veto, s) => {
                 let managed = Managed { port, veto };
-                let step = s.next(managed, block, got, words);
+                let step = s.next(managed, block, given);
                 After::bringup(managed, step)
             }
-            After::Poll(watch, s) => After::poll(port, watch, s.next(watch, port, got)),
+            After::Poll(watch, s) => After::poll(port, watch, s.next(watch, port, given.answer)),
         }
     }
 }

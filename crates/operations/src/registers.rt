@@ -13,8 +13,8 @@ ghost use Rattle.phy.specs.Scan.{told_scan};
 ghost use Rattle.operations.specs.After.{told_after};
 ghost use Rattle.operations.specs.Mdio.{resume_mdio};
 
-use crate::{After, Ended};
-use access::access::Job;
+use crate::After;
+use access::access::{Ended, Job};
 use answers::Value;
 use hardware::{Error, Port, Step};
 use phy::advertise::{Advertise, Advertised};
@@ -46,7 +46,7 @@ impl Mdio {
         port: Port,
         at: Register,
         step: Step<Job, Modify, Result<u32, Error>>,
-    ) -> Step<Job, After, Ended>
+    ) -> Step<Job, After, Ended<Value>>
         ensures { (b : List ℕ) → told_after port b result ≡ answer value.Word (told_modify port at b step) }
     {
         match step {
@@ -60,7 +60,7 @@ impl Mdio {
         port: Port,
         phy: u32,
         step: Step<Job, Probe, Result<Option<u32>, Error>>,
-    ) -> Step<Job, After, Ended>
+    ) -> Step<Job, After, Ended<Value>>
         ensures { (b : List ℕ) → told_after port b result ≡ answer value.Probe (told_probe port phy b step) }
     {
         match step {
@@ -73,7 +73,7 @@ impl Mdio {
     pub fn scan(
         port: Port,
         step: Step<Job, Scan, Result<Option<(u8, u32)>, Error>>,
-    ) -> Step<Job, After, Ended>
+    ) -> Step<Job, After, Ended<Value>>
         ensures { (b : List ℕ) → told_after port b result ≡ answer value.Scan (told_scan port b step) }
     {
         match step {
@@ -82,7 +82,7 @@ impl Mdio {
         }
     }
 
-    fn unit(port: Port, r: Result<(), Error>) -> Step<Job, After, Ended>
+    fn unit(port: Port, r: Result<(), Error>) -> Step<Job, After, Ended<Value>>
         ensures { (b : List ℕ) → told_after port b result ≡ answer nothing (end r) }
     {
         After::plain(r.map(|()| Value::Nothing))
@@ -94,7 +94,7 @@ impl Mdio {
         phy: u32,
         x557: bool,
         step: Step<Job, Reset, Result<(), Error>>,
-    ) -> Step<Job, After, Ended>
+    ) -> Step<Job, After, Ended<Value>>
         ensures { (b : List ℕ) → told_after port b result ≡ answer nothing (told_reset port phy x557 b step) }
     {
         match step {
@@ -103,7 +103,7 @@ impl Mdio {
         }
     }
 
-    fn flag(port: Port, r: Result<bool, Error>) -> Step<Job, After, Ended>
+    fn flag(port: Port, r: Result<bool, Error>) -> Step<Job, After, Ended<Value>>
         ensures { (b : List ℕ) → told_after port b result ≡ answer value.Flag (end r) }
     {
         After::plain(r.map(|v| Value::Flag(v)))
@@ -114,7 +114,7 @@ impl Mdio {
         port: Port,
         phy: u32,
         step: Step<Job, AnLink, Result<bool, Error>>,
-    ) -> Step<Job, After, Ended>
+    ) -> Step<Job, After, Ended<Value>>
         ensures { (b : List ℕ) → told_after port b result ≡ answer value.Flag (told_an_link port phy b step) }
     {
         match step {
@@ -128,7 +128,7 @@ impl Mdio {
         port: Port,
         asked: Advertised,
         step: Step<Job, Advertise, Result<bool, Error>>,
-    ) -> Step<Job, After, Ended>
+    ) -> Step<Job, After, Ended<Value>>
         ensures { (b : List ℕ) → told_after port b result ≡ answer value.Flag (told_advertise port asked b step) }
     {
         match step {
@@ -142,7 +142,7 @@ impl Mdio {
         port: Port,
         fast: bool,
         step: Step<Job, Clock, Result<(), Error>>,
-    ) -> Step<Job, After, Ended>
+    ) -> Step<Job, After, Ended<Value>>
         ensures { (b : List ℕ) → told_after port b result ≡ answer nothing (told_clock port fast b step) }
     {
         match step {
@@ -153,7 +153,7 @@ impl Mdio {
 
     // Where the clock is not set, it ends at once.
     #[tactic(auto, using(hardware::proofs::Laws::then_assoc, crate::proofs::Laws::reset_begun))]
-    pub fn after_reset(port: Port) -> Step<Job, After, Ended>
+    pub fn after_reset(port: Port) -> Step<Job, After, Ended<Value>>
         ensures { (b : List ℕ) → told_after port b result ≡ answer nothing (after_reset port port.family) }
     {
         match Clock::of(port) {
@@ -163,7 +163,7 @@ impl Mdio {
     }
 
     #[tactic(auto, using(hardware::proofs::Laws::then_assoc))]
-    pub fn next(self, port: Port, got: Result<u32, Error>) -> Step<Job, After, Ended>
+    pub fn next(self, port: Port, got: Result<u32, Error>) -> Step<Job, After, Ended<Value>>
         ensures { (b : List ℕ) → told_after port b result ≡ resume_mdio port self got }
     {
         match self {

@@ -2,10 +2,11 @@
 use Rattle.std.specs.Prelude.{ℕ, ◌%◌, ◌/◌, List, ◌∷◌, ◌++◌, eqb, drop, replicate}
 use Rattle.hardware.specs.Talk.{pick}
 use Rattle.packed.specs.Tape.{word_at, joined}
+use Rattle.access.specs.declared.access.Ended.{Ended}
+use Rattle.answers.specs.declared.Value.{Value}
 use Rattle.hardware.specs.declared.Action.{Action}
 use Rattle.hardware.specs.declared.Step.TheVariants as stepv
 use Rattle.hardware.specs.declared.Step.{Step}
-use Rattle.operations.specs.declared.Ended.{Ended}
 use Rattle.packed.specs.Access.{get_access, words_access}
 use Rattle.packed.specs.Answers.{get_value, words_value}
 use Rattle.packed.specs.Hardware.{get_action, get_error, words_action, words_error}
@@ -14,11 +15,11 @@ use Rattle.packed.specs.Packed.{get_result, words_result}
 use Rattle.started.specs.declared.operation.Op.{Op}
 
 -- 58 words
-unfoldable pub words_place : Step Action Op Ended → List ℕ
+unfoldable pub words_place : Step Action Op (Ended Value) → List ℕ
 words_place (stepv.Done ended) = 1 ∷ (ended.words % 4294967296) ∷ (ended.words / 4294967296) ∷ (words_result 13 5 words_value words_error ended.answer) ++ (replicate 41 0)
 words_place (stepv.Ask action op) = 2 ∷ (words_action action) ++ ((words_access op.access) ++ (words_after op.after))
 
-unfoldable pub get_place : List ℕ → Step Action Op Ended
+unfoldable pub get_place : List ℕ → Step Action Op (Ended Value)
 get_place s =
     pick (eqb (word_at s 0) 1) (stepv.Done (record { answer = (get_result get_value get_error (drop 3 s)); words = (joined (word_at s 1) (word_at s 2)) })) (
     stepv.Ask (get_action (drop 1 s)) (record { access = (get_access (drop 4 s)); after = (get_after (drop 34 (drop 4 s))) }))

@@ -4,12 +4,13 @@ ghost use Rattle.packed.specs.Started.{get_place, words_place};
 use crate::packed::Packed;
 use crate::read::{after, joined, word_at};
 use crate::tape::{long, word, zeros};
-use access::access::Access;
+use access::access::{Access, Ended};
+use answers::Value;
 use hardware::{Action, Step};
-use operations::{After, Ended};
+use operations::After;
 use started::operation::Op;
 
-impl Packed for Step<Action, Op, Ended> {
+impl Packed for Step<Action, Op, Ended<Value>> {
     ghost words = { words_place };
 
     ghost read = { get_place };
@@ -33,7 +34,7 @@ impl Packed for Step<Action, Op, Ended> {
     }
 
     #[tactic(auto, unfolding(crate::specs::Started::get_place))]
-    fn get(tape: &[u32], at: usize) -> Step<Action, Op, Ended> {
+    fn get(tape: &[u32], at: usize) -> Step<Action, Op, Ended<Value>> {
         let kind = word_at(tape, at, 0);
         if kind == 1 {
             Step::Done(Ended {

@@ -3,17 +3,9 @@ ghost use Rattle.access.specs.Hold.{resume_hold};
 
 use crate::command::CommandCall;
 use crate::lent::{Lent, Runs, run, single};
-use access::hold::Hold;
+use access::hold::{Hold, HoldCall};
 use drive::{Host, machine};
-use hardware::{Action, Error, Port, Reply, Step};
-
-// What acquire or release is given, at each reply too.
-#[derive(Clone, Copy)]
-pub struct HoldCall {
-    pub port: Port,
-    // the mask without TOKEN
-    pub hw: u32,
-}
+use hardware::{Action, Error, Reply, Step};
 
 impl Lent for Hold {
     type Context = HoldCall;
@@ -32,7 +24,7 @@ impl Lent for Hold {
         block: &mut [u32; 16],
         reply: Reply,
     ) -> Step<Action, Hold, Result<(), Error>> {
-        Hold::next(self, call.port, call.hw, block, reply)
+        Hold::next(self, call, block, reply)
     }
 }
 
@@ -49,7 +41,7 @@ impl Runs for Hold {
     ) -> Step<Action, Hold, Result<(), Error>> {
         if let Hold::Bits(place, m) = self {
             let step = machine::run(m, a, call.hw, h, replies, t);
-            return Hold::bits(call.port, call.hw, block, place, step);
+            return Hold::bits(call, block, place, step);
         }
         if let Hold::Token(place, m) = self {
             let token = CommandCall {
@@ -57,7 +49,7 @@ impl Runs for Hold {
                 words: 2,
             };
             let step = run(m, a, token, block, h, replies, t);
-            return Hold::commanded(call.port, call.hw, place, step);
+            return Hold::commanded(call, place, step);
         }
         single(self, a, call, block, h, replies, t)
     }

@@ -2,19 +2,11 @@
 ghost use Rattle.access.specs.Locked.{resume_locked};
 
 use crate::body;
-use crate::hold::HoldCall;
 use crate::lent::{Lent, Runs, run};
-use access::hold::Hold;
-use access::locked::Locked;
+use access::hold::{Hold, HoldCall};
+use access::locked::{Locked, LockedCall};
 use drive::Host;
-use hardware::{Action, Error, Port, Reply, Step};
-
-// What `locked` is given, at each reply too.
-#[derive(Clone, Copy)]
-pub struct LockedCall {
-    pub port: Port,
-    pub mask: u32,
-}
+use hardware::{Action, Error, Reply, Step};
 
 impl Lent for Locked {
     type Context = LockedCall;
@@ -34,7 +26,7 @@ impl Lent for Locked {
         block: &mut [u32; 16],
         reply: Reply,
     ) -> Step<Action, Locked, Result<u32, Error>> {
-        Locked::next(self, call.port, call.mask, block, reply)
+        Locked::next(self, call, block, reply)
     }
 }
 
@@ -56,11 +48,11 @@ impl Runs for Locked {
                     hw: call.mask & !Hold::TOKEN,
                 };
                 let step = run(m, a, hold, block, h, replies, t);
-                Locked::held(call.port, call.mask, block, place, step)
+                Locked::held(call, block, place, step)
             }
             Locked::Body(m) => {
                 let step = body::run(m, a, h, replies, t);
-                Locked::after_body(call.port, call.mask, block, step)
+                Locked::after_body(call, block, step)
             }
         }
     }

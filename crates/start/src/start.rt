@@ -7,16 +7,17 @@ ghost use Rattle.start.specs.Operation.{op_of};
 ghost use Rattle.start.specs.declared.operation.Operation.TheVariants as operation;
 
 use crate::operation::Operation;
-use access::access::{Access, Given, Job};
+use access::access::{Access, Ended, Job};
 use activity::{Activity, Asked};
+use answers::Value;
 use bringup::Bringup;
 use hardware::{Action, Managed, Port, Step};
 use hostif::token::Token;
 use kr::modify::{Change, KrModify};
 use kr::sequence::{KrPlace, Sequence};
+use operations::After;
 use operations::kr_registers::Kr;
 use operations::registers::Mdio;
-use operations::{After, Ended};
 use phy::advertise::{Advertise, Advertised};
 use phy::an_link::AnLink;
 use phy::modify::{Modify, Register};
@@ -29,8 +30,8 @@ use watch::store::Watch;
 // An operation's first step: `acquire` and `release` have an access alone, of which nothing is made.
 #[derive(Clone, Copy)]
 pub enum First {
-    Access(Step<Action, Access, Given>),
-    After(Step<Job, After, Ended>),
+    Access(Step<Action, Access, Ended<u32>>),
+    After(Step<Job, After, Ended<Value>>),
 }
 
 // How many words the first so many of a block of 16 are.
@@ -41,14 +42,14 @@ fn count(block: &[u32], words: usize) -> u32
     if words < 16 { words as u32 } else { 16 }
 }
 
-fn command(port: Port, block: &mut [u32; 16], words: usize) -> Step<Job, After, Ended>
+fn command(port: Port, block: &mut [u32; 16], words: usize) -> Step<Job, After, Ended<Value>>
     ensures { told_after port block.new result ≡ ops.operation port (ops.Command (take words block.old)) }
 {
     let n = count(block, words);
     Step::Ask(Job::Command(words), After::Command(n))
 }
 
-fn token(port: Port, take: bool, block: &mut [u32; 16]) -> Step<Job, After, Ended>
+fn token(port: Port, take: bool, block: &mut [u32; 16]) -> Step<Job, After, Ended<Value>>
     ensures { told_after port block.new result ≡ ops.operation port (ops.Token take) }
 {
     let token = Token { take };
@@ -57,7 +58,7 @@ fn token(port: Port, take: bool, block: &mut [u32; 16]) -> Step<Job, After, Ende
 }
 
 #[tactic(auto, using(hardware::proofs::Laws::then_assoc))]
-fn phy_activity(port: Port, asked: Asked, block: &mut [u32; 16]) -> Step<Job, After, Ended>
+fn phy_activity(port: Port, asked: Asked, block: &mut [u32; 16]) -> Step<Job, After, Ended<Value>>
     ensures { told_after port block.new result ≡ ops.operation port (op_of (operation.PhyActivity asked) block.old) }
 {
     let step = Activity::start(asked, port, block);
@@ -65,7 +66,7 @@ fn phy_activity(port: Port, asked: Asked, block: &mut [u32; 16]) -> Step<Job, Af
 }
 
 #[tactic(auto, using(hardware::proofs::Laws::then_assoc, operations::proofs::Laws::word_begun))]
-fn read_reg(port: Port, phy: u32, device: u32, register: u16) -> Step<Job, After, Ended>
+fn read_reg(port: Port, phy: u32, device: u32, register: u16) -> Step<Job, After, Ended<Value>>
     ensures { (b : List ℕ) → told_after port b result ≡ ops.operation port (ops.ReadReg phy device register) }
 {
     Step::Ask(Job::ReadReg(phy, device, register), After::Word)
@@ -77,14 +78,14 @@ fn write_reg(
     device: u32,
     register: u16,
     value: u16,
-) -> Step<Job, After, Ended>
+) -> Step<Job, After, Ended<Value>>
     ensures { (b : List ℕ) → told_after port b result ≡ ops.operation port (ops.WriteReg phy device register value) }
 {
     let job = Job::WriteReg(phy, device, register, value);
     Step::Ask(job, After::Nothing)
 }
 
-fn abilities(port: Port, phy: u32) -> Step<Job, After, Ended>
+fn abilities(port: Port, phy: u32) -> Step<Job, After, Ended<Value>>
     ensures { (b : List ℕ) → told_after port b result ≡ ops.operation port (ops.Abilities phy) }
 {
     let job = Job::ReadReg(phy, Register::PMA, 4);
@@ -92,7 +93,7 @@ fn abilities(port: Port, phy: u32) -> Step<Job, After, Ended>
 }
 
 #[tactic(auto, using(hardware::proofs::Laws::then_assoc))]
-fn modify(port: Port, at: Register) -> Step<Job, After, Ended>
+fn modify(port: Port, at: Register) -> Step<Job, After, Ended<Value>>
     ensures { (b : List ℕ) → told_after port b result ≡ ops.operation port (op_of (operation.Modify at) []) }
 {
     let step = Modify::start(at, port);
@@ -100,7 +101,7 @@ fn modify(port: Port, at: Register) -> Step<Job, After, Ended>
 }
 
 #[tactic(auto, using(hardware::proofs::Laws::then_assoc))]
-fn probe(port: Port, phy: u32) -> Step<Job, After, Ended>
+fn probe(port: Port, phy: u32) -> Step<Job, After, Ended<Value>>
     ensures { (b : List ℕ) → told_after port b result ≡ ops.operation port (ops.Probe phy) }
 {
     let step = Probe::start(phy, port);
@@ -108,7 +109,7 @@ fn probe(port: Port, phy: u32) -> Step<Job, After, Ended>
 }
 
 #[tactic(auto, using(hardware::proofs::Laws::then_assoc))]
-fn scan(port: Port) -> Step<Job, After, Ended>
+fn scan(port: Port) -> Step<Job, After, Ended<Value>>
     ensures { (b : List ℕ) → told_after port b result ≡ ops.operation port ops.Scan }
 {
     let step = Scan::start(port);
@@ -116,7 +117,7 @@ fn scan(port: Port) -> Step<Job, After, Ended>
 }
 
 #[tactic(auto, using(hardware::proofs::Laws::then_assoc))]
-fn reset(port: Port, phy: u32, x557: bool) -> Step<Job, After, Ended>
+fn reset(port: Port, phy: u32, x557: bool) -> Step<Job, After, Ended<Value>>
     ensures { (b : List ℕ) → told_after port b result ≡ ops.operation port (ops.Reset phy x557) }
 {
     let step = Reset::start(phy, x557, port);
@@ -124,7 +125,7 @@ fn reset(port: Port, phy: u32, x557: bool) -> Step<Job, After, Ended>
 }
 
 #[tactic(auto, using(hardware::proofs::Laws::then_assoc))]
-fn advertise(port: Port, asked: Advertised) -> Step<Job, After, Ended>
+fn advertise(port: Port, asked: Advertised) -> Step<Job, After, Ended<Value>>
     ensures { (b : List ℕ) → told_after port b result ≡ ops.operation port (op_of (operation.Advertise asked) []) }
 {
     let step = Advertise::start(asked, port);
@@ -132,7 +133,7 @@ fn advertise(port: Port, asked: Advertised) -> Step<Job, After, Ended>
 }
 
 #[tactic(auto, using(hardware::proofs::Laws::then_assoc))]
-fn an_link(port: Port, phy: u32) -> Step<Job, After, Ended>
+fn an_link(port: Port, phy: u32) -> Step<Job, After, Ended<Value>>
     ensures { (b : List ℕ) → told_after port b result ≡ ops.operation port (ops.AnLink phy) }
 {
     let step = AnLink::start(phy, port);
@@ -140,20 +141,20 @@ fn an_link(port: Port, phy: u32) -> Step<Job, After, Ended>
 }
 
 #[tactic(auto, using(hardware::proofs::Laws::then_assoc, operations::proofs::Laws::word_begun))]
-fn kr_read(port: Port, address: u32) -> Step<Job, After, Ended>
+fn kr_read(port: Port, address: u32) -> Step<Job, After, Ended<Value>>
     ensures { (b : List ℕ) → told_after port b result ≡ ops.operation port (ops.KrRead address) }
 {
     Step::Ask(Job::KrRead(address), After::Word)
 }
 
-fn kr_write(port: Port, address: u32, value: u32) -> Step<Job, After, Ended>
+fn kr_write(port: Port, address: u32, value: u32) -> Step<Job, After, Ended<Value>>
     ensures { (b : List ℕ) → told_after port b result ≡ ops.operation port (ops.KrWrite address value) }
 {
     Step::Ask(Job::KrWrite(address, value), After::Nothing)
 }
 
 #[tactic(auto, using(hardware::proofs::Laws::then_assoc))]
-fn kr_modify(port: Port, change: Change) -> Step<Job, After, Ended>
+fn kr_modify(port: Port, change: Change) -> Step<Job, After, Ended<Value>>
     ensures { (b : List ℕ) → told_after port b result ≡ ops.operation port (op_of (operation.KrModify change) []) }
 {
     let step = KrModify::start(change, port);
@@ -161,7 +162,7 @@ fn kr_modify(port: Port, change: Change) -> Step<Job, After, Ended>
 }
 
 #[tactic(auto, using(hardware::proofs::Laws::then_assoc), unfolding(reference::specs::X552::restart_an))]
-fn restart_an(port: Port) -> Step<Job, After, Ended>
+fn restart_an(port: Port) -> Step<Job, After, Ended<Value>>
     ensures { (b : List ℕ) → told_after port b result ≡ ops.operation port ops.RestartAn }
 {
     let step = Sequence::start(KrPlace::Restart, port);
@@ -169,7 +170,7 @@ fn restart_an(port: Port) -> Step<Job, After, Ended>
 }
 
 #[tactic(auto, using(hardware::proofs::Laws::then_assoc), unfolding(reference::specs::X552::kr_autoneg))]
-fn kr_autoneg(port: Port, kr: bool, kx: bool) -> Step<Job, After, Ended>
+fn kr_autoneg(port: Port, kr: bool, kx: bool) -> Step<Job, After, Ended<Value>>
     ensures { (b : List ℕ) → told_after port b result ≡ ops.operation port (ops.KrAutoneg kr kx) }
 {
     let step = Sequence::start(KrPlace::Advertise(kr, kx), port);
@@ -177,20 +178,20 @@ fn kr_autoneg(port: Port, kr: bool, kx: bool) -> Step<Job, After, Ended>
 }
 
 #[tactic(auto, using(hardware::proofs::Laws::then_assoc, operations::proofs::Laws::word_begun))]
-fn nvm_word(port: Port, word: u16) -> Step<Job, After, Ended>
+fn nvm_word(port: Port, word: u16) -> Step<Job, After, Ended<Value>>
     ensures { (b : List ℕ) → told_after port b result ≡ ops.operation port (ops.NvmWord word) }
 {
     Step::Ask(Job::NvmWord(word), After::Word)
 }
 
-fn after_reset(port: Port) -> Step<Job, After, Ended>
+fn after_reset(port: Port) -> Step<Job, After, Ended<Value>>
     ensures { (b : List ℕ) → told_after port b result ≡ ops.operation port ops.AfterReset }
 {
     Mdio::after_reset(port)
 }
 
 #[tactic(auto, using(hardware::proofs::Laws::then_assoc))]
-fn bringup(port: Port, veto: bool, block: &mut [u32; 16]) -> Step<Job, After, Ended>
+fn bringup(port: Port, veto: bool, block: &mut [u32; 16]) -> Step<Job, After, Ended<Value>>
     ensures { told_after port block.new result ≡ ops.operation port (ops.Bringup veto) }
 {
     let managed = Managed { port, veto };
@@ -198,7 +199,7 @@ fn bringup(port: Port, veto: bool, block: &mut [u32; 16]) -> Step<Job, After, En
     After::bringup(managed, step)
 }
 
-fn poll(port: Port, watch: Watch) -> Step<Job, After, Ended>
+fn poll(port: Port, watch: Watch) -> Step<Job, After, Ended<Value>>
     ensures { (b : List ℕ) → told_after port b result ≡ ops.operation port (op_of (operation.Poll watch) []) }
 {
     let step = Poll::start(watch, port);

@@ -6,8 +6,9 @@ use Rattle.hardware.specs.declared.Port.{Port}
 use Rattle.started.specs.Operation.{told}
 use Rattle.hardware.specs.declared.Action.{Action}
 use Rattle.hardware.specs.declared.Step.{Step}
-use Rattle.operations.specs.declared.Ended.{Ended}
+use Rattle.access.specs.declared.access.Ended.{Ended}
+use Rattle.answers.specs.declared.Value.{Value}
 use Rattle.started.specs.declared.operation.Op.{Op}
 
-pub told_at : (p : Port) (b : List ℕ) {x y : Step Action Op Ended} → x ≡ y → told p x b ≡ told p y b
-told_at p b e = ap (λ (x : Step Action Op Ended). told p x b) e
+pub told_at : (p : Port) (b : List ℕ) {x y : Step Action Op (Ended Value)} → x ≡ y → told p x b ≡ told p y b
+told_at p b e = ap (λ (x : Step Action Op (Ended Value)). told p x b) e

@@ -5,7 +5,8 @@ use Rattle.hardware.specs.declared.Port.{Port}
 use Rattle.reference.specs.Operations as ops
 use Rattle.access.specs.Access.{resume_access}
 use Rattle.operations.specs.After.{out, resume_after}
-use Rattle.operations.specs.declared.Ended.{Ended}
+use Rattle.access.specs.declared.access.Ended.{Ended}
+use Rattle.answers.specs.declared.Value.{Value}
 use Rattle.hardware.specs.declared.Action.{Action}
 use Rattle.hardware.specs.declared.Step.{Step}
 use Rattle.hardware.specs.Told.{told_by}
@@ -19,5 +20,5 @@ Out = ops.Out
 abbrev pub resume_op : Port → Op → Reply → List ℕ → Talk Out
 resume_op port op r b = and_then (resume_access port op.access b r) (λ p. resume_after port op.after p.0 p.1)
 
-abbrev pub told : Port → Step Action Op Ended → List ℕ → Talk Out
+abbrev pub told : Port → Step Action Op (Ended Value) → List ℕ → Talk Out
 told port step b = told_by (out b) (λ op r. resume_op port op r b) step

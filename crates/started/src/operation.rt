@@ -5,11 +5,11 @@ ghost use Rattle.access.specs.Access.{told_access, job_talk};
 ghost use Rattle.operations.specs.After.{out, resume_after, told_after};
 ghost use Rattle.started.specs.Operation.{resume_op, told};
 
-use access::access::{Access, Given, Job};
+use access::access::{Access, Ended, Job};
 use answers::Value;
 use drive::Host;
 use hardware::{Action, Error, Port, Reply, Step};
-use operations::{After, Ended};
+use operations::After;
 use run_access::lent::{Lent, Runs, run};
 
 // A running operation, at the action that its access asks for.
@@ -27,7 +27,7 @@ impl Op {
         block: &mut [u32; 16],
         job: Job,
         after: After,
-    ) -> Step<Action, Op, Ended>
+    ) -> Step<Action, Op, Ended<Value>>
         ensures { told port result block.new ≡ and_then (job_talk port job block.old) (λ p. resume_after port after p.0 p.1) }
     {
         let begun = job.start(port, block);
@@ -39,8 +39,8 @@ impl Op {
     pub fn decided(
         port: Port,
         block: &mut [u32; 16],
-        step: Step<Job, After, Ended>,
-    ) -> Step<Action, Op, Ended>
+        step: Step<Job, After, Ended<Value>>,
+    ) -> Step<Action, Op, Ended<Value>>
         ensures { told port result block.new ≡ told_after port block.old step }
     {
         match step {
@@ -54,14 +54,14 @@ impl Op {
         port: Port,
         after: After,
         block: &mut [u32; 16],
-        step: Step<Action, Access, Given>,
-    ) -> Step<Action, Op, Ended>
+        step: Step<Action, Access, Ended<u32>>,
+    ) -> Step<Action, Op, Ended<Value>>
         ensures { told port result block.new ≡ and_then (told_access port block.old step) (λ p. resume_after port after p.0 p.1) }
     {
         match step {
             Step::Ask(a, access) => Step::Ask(a, Op { access, after }),
             Step::Done(given) => {
-                let next = after.next(port, block, given.word, given.words);
+                let next = after.next(port, block, given);
                 Op::decided(port, block, next)
             }
         }
@@ -71,7 +71,7 @@ impl Op {
 impl Lent for Op {
     type Context = Port;
 
-    type Answer = Ended;
+    type Answer = Ended<Value>;
 
     // the answer, and the words of the block that belong to it
     type End = (Result<Value, Error>, [u32; 16]);
@@ -81,7 +81,12 @@ impl Lent for Op {
     ghost end = { λ port b ended. out b ended };
 
     #[tactic(auto, using(hardware::proofs::Laws::then_assoc))]
-    fn next(self, port: Port, block: &mut [u32; 16], reply: Reply) -> Step<Action, Op, Ended> {
+    fn next(
+        self,
+        port: Port,
+        block: &mut [u32; 16],
+        reply: Reply,
+    ) -> Step<Action, Op, Ended<Value>> {
         let step = self.access.next(port, block, reply);
         Op::stepped(port, self.after, block, step)
     }
@@ -97,7 +102,7 @@ impl Runs for Op {
         h: &mut Host,
         replies: &[u32],
         t: &mut [u32],
-    ) -> Step<Action, Op, Ended> {
+    ) -> Step<Action, Op, Ended<Value>> {
         let step = run(self.access, a, port, block, h, replies, t);
         Op::stepped(port, self.after, block, step)
     }

@@ -6,7 +6,7 @@ ghost use Rattle.streams.specs.Batch.{reply_at, replies_ahead, words_ahead, plac
 ghost use Rattle.streams.specs.Output.{PrintsAll, line_count};
 
 use crate::input::{Input, look};
-use crate::output::print;
+use crate::output::Waiting;
 use crate::part::part;
 use lines::buffer::Seen;
 use lines::listing::{Line, action_line};
@@ -54,36 +54,29 @@ fn print_action<W: Write>(
     value: u32,
     line: &mut Line,
     sink: &mut W,
-    out: &mut [u8],
-    n: usize,
-) -> io::Result<usize>
-    ensures { PrintsAll result (W.contents sink.old) out.old n (action_text kind register value) (W.contents sink.new) out.new }
+    waiting: &mut Waiting,
+) -> io::Result<()>
+    ensures { PrintsAll result (W.contents sink.old) waiting.old (action_text kind register value) (W.contents sink.new) waiting.new }
 {
     action_line(kind, register, value, line);
-    print(sink, out, n, line.as_slice())
+    waiting.print(sink, line.as_slice())
 }
 
 // The lines of a transcript's first words.
-#[tactic(auto, using(lines::proofs::ListingLaws::lines_more, crate::proofs::OutputLaws::prints_on))]
+#[tactic(auto)]
 pub fn print_lines<W: Write>(
     t: &[u32],
     at: usize,
     sink: &mut W,
-    out: &mut [u8],
-    n: usize,
-) -> io::Result<usize>
-    ensures { PrintsAll result (W.contents sink.old) out.old n (lines_text (take (3 * line_count at t.now) t.now)) (W.contents sink.new) out.new }
+    waiting: &mut Waiting,
+) -> io::Result<()>
+    ensures { PrintsAll result (W.contents sink.old) waiting.old (lines_text (take (3 * line_count at t.now) t.now)) (W.contents sink.new) waiting.new }
 {
     let mut line = Line::new();
-    let mut end = n;
-    for i in 0..128 {
-        if at <= 3 * i || t.len() < 3 * i + 3 {
-            return Ok(end);
-        }
-        let (kind, register, value) = (t[3 * i], t[3 * i + 1], t[3 * i + 2]);
-        end = print_action(kind, register, value, &mut line, sink, out, end)?;
+    for action in t.chunks_exact(3).take(at.div_ceil(3).min(128)) {
+        print_action(action[0], action[1], action[2], &mut line, sink, waiting)?;
     }
-    Ok(end)
+    Ok(())
 }
 
 // Behind the replies that were used.

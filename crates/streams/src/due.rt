@@ -12,8 +12,8 @@ use std::io::Read;
 // Why a listing stops at a reply that is due: the line cannot be read, or there is none.
 #[derive(Clone, Copy)]
 pub enum Fault {
-    BadLine,
-    NoReply,
+    BadLine = 25,
+    NoReply = 26,
 }
 
 impl Fault {
@@ -21,10 +21,7 @@ impl Fault {
     pub fn number(self) -> u32
         ensures { number self ≡ result }
     {
-        match self {
-            Fault::BadLine => 25,
-            Fault::NoReply => 26,
-        }
+        self as u32
     }
 }
 

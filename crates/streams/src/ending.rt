@@ -3,7 +3,7 @@ ghost use Rattle.std.specs.Prelude.{take};
 ghost use Rattle.lines.specs.Listing.{end_text, stop_text, left_text};
 ghost use Rattle.streams.specs.Output.{PrintsAll};
 
-use crate::output::print;
+use crate::output::Waiting;
 use answers::Value;
 use hardware::Error;
 use lines::listing::{Line, end_line, left_line, stop_line};
@@ -16,14 +16,13 @@ pub fn stop<W: Write>(
     actions: u64,
     micros: u64,
     sink: &mut W,
-    out: &mut [u8],
-    n: usize,
-) -> io::Result<usize>
-    ensures { PrintsAll result (W.contents sink.old) out.old n (stop_text number actions micros) (W.contents sink.new) out.new }
+    waiting: &mut Waiting,
+) -> io::Result<()>
+    ensures { PrintsAll result (W.contents sink.old) waiting.old (stop_text number actions micros) (W.contents sink.new) waiting.new }
 {
     let mut line = Line::new();
     stop_line(number, actions, micros, &mut line);
-    print(sink, out, n, line.as_slice())
+    waiting.print(sink, line.as_slice())
 }
 
 // The last line of a conversation that has ended.
@@ -33,14 +32,13 @@ pub fn last<W: Write>(
     actions: u64,
     micros: u64,
     sink: &mut W,
-    out: &mut [u8],
-    n: usize,
-) -> io::Result<usize>
-    ensures { PrintsAll result (W.contents sink.old) out.old n (end_text answer block actions micros) (W.contents sink.new) out.new }
+    waiting: &mut Waiting,
+) -> io::Result<()>
+    ensures { PrintsAll result (W.contents sink.old) waiting.old (end_text answer block actions micros) (W.contents sink.new) waiting.new }
 {
     let mut line = Line::new();
     end_line(answer, block, actions, micros, &mut line);
-    print(sink, out, n, line.as_slice())
+    waiting.print(sink, line.as_slice())
 }
 
 // The host block that a `command` leaves.
@@ -48,12 +46,11 @@ pub fn print_left<W: Write>(
     host: [u32; 16],
     words: u32,
     sink: &mut W,
-    out: &mut [u8],
-    n: usize,
-) -> io::Result<usize>
-    ensures { PrintsAll result (W.contents sink.old) out.old n (left_text (take words host)) (W.contents sink.new) out.new }
+    waiting: &mut Waiting,
+) -> io::Result<()>
+    ensures { PrintsAll result (W.contents sink.old) waiting.old (left_text (take words host)) (W.contents sink.new) waiting.new }
 {
     let mut line = Line::new();
     left_line(host, words, &mut line);
-    print(sink, out, n, line.as_slice())
+    waiting.print(sink, line.as_slice())
 }

@@ -1,29 +1,56 @@
-// Lines to a writer, through a buffer.
-ghost use Rattle.std.specs.Prelude.{◌≤◌, length, take, IfOk, OnOk};
+// Lines to a writer, through memory in which they wait.
+ghost use Rattle.std.specs.Prelude.{◌≡◌, ◌≤◌, [], length, OnOk};
 ghost use Rattle.std.specs.Io.KnownBytes.{Appends};
 ghost use Rattle.streams.specs.Output.{Prints};
 
 use std::io;
 use std::io::Write;
+use std::marker::Model;
 
-// The first n bytes of the buffer are written.
-pub fn flush<W: Write>(sink: &mut W, out: &[u8], n: usize) -> io::Result<()>
-    ensures { OnOk result (n ≤ length out.now → Appends (W.contents sink.old) (W.contents sink.new) (take n out.now)) }
-{
-    if n > out.len() {
-        return Ok(());
-    }
-    sink.write_all(&out[..n])
+// Bytes that wait to be written, in fixed memory.
+#[derive(Drop)]
+pub struct Waiting {
+    bytes: [u8; 65536],
+    len: usize,
 }
 
-// Bytes go behind those that wait to be written; where there is no room, those are written first.
-pub fn print<W: Write>(sink: &mut W, out: &mut [u8], n: usize, bytes: &[u8]) -> io::Result<usize>
-    ensures { IfOk result (λ end. n ≤ length out.old → length bytes.now ≤ length out.old
-        → Prints (W.contents sink.old) out.old n bytes.now (W.contents sink.new) out.new end) }
-{
-    if let Some(end) = text::put(out, n, bytes) {
-        return Ok(end);
+impl Model for Waiting {
+    ghost use Rattle.std.specs.Prelude.{ℕ, ◌≤◌, List, take};
+
+    ghost Value = { List ℕ };
+
+    ghost view = { λ w. take w.len w.bytes };
+
+    ghost invariant = { λ w. w.len ≤ 65536 };
+}
+
+impl Waiting {
+    pub fn new() -> Waiting
+        ensures { result ≡ [] }
+    {
+        Waiting {
+            bytes: [0; 65536],
+            len: 0,
+        }
     }
-    flush(sink, out, n)?;
-    Ok(text::put(out, 0, bytes).unwrap_or(0))
+
+    // Bytes behind those that wait; where there is no room, those are written first.
+    pub fn print<W: Write>(&mut self, sink: &mut W, bytes: &[u8]) -> io::Result<()>
+        ensures { OnOk result (length bytes.now ≤ 65536 → Prints (W.contents sink.old) self.old bytes.now (W.contents sink.new) self.new) }
+    {
+        if let Some(len) = text::put(&mut self.bytes, self.len, bytes) {
+            self.len = len;
+            return Ok(());
+        }
+        self.flush(sink)?;
+        self.len = text::put(&mut self.bytes, 0, bytes).unwrap_or(0);
+        Ok(())
+    }
+
+    // All that wait are written.
+    pub fn flush<W: Write>(&self, sink: &mut W) -> io::Result<()>
+        ensures { OnOk result (Appends (W.contents sink.old) (W.contents sink.new) self.now) }
+    {
+        sink.write_all(&self.bytes[..self.len])
+    }
 }

@@ -5,13 +5,12 @@ ghost use Rattle.text.specs.Same.{same};
 ghost use Rattle.trace.specs.Kinds.{no_more, word_of, half_of, truth_of, maybe_of, status_of};
 
 use start::operation::Operation;
-use text::is;
 
-#[tactic(auto, using(lines::proofs::Laws::whole_is))]
+#[tactic(auto, using(text::proofs::SameLaws::same_pointwise))]
 pub fn is_name(word: &[u8], name: &[u8]) -> bool
     ensures { same word.now name.now ≡ result }
 {
-    is(word, 0, word.len(), name)
+    word == name
 }
 
 // The operation, where no word is left. None of them was a host block's.
@@ -58,27 +57,25 @@ pub fn truth(args: &[u32]) -> Option<(bool, &[u32])>
 }
 
 // 0 where there is none, or 1 and then its 0 or 1.
-#[tactic(auto, unfolding(crate::specs::Kinds::maybe_of))]
+#[tactic(auto, unfolding(crate::specs::Kinds::maybe_of, crate::specs::Kinds::truth_of))]
 pub fn maybe(args: &[u32]) -> Option<(Option<bool>, &[u32])>
     ensures { maybe_of args.now ≡ option_map (λ p. (p.0, p.1.now)) result }
 {
-    let (given, rest) = word(args)?;
-    match given {
-        0 => Some((None, rest)),
-        1 => truth(rest).map(|(value, rest)| (Some(value), rest)),
-        _ => None,
+    let (given, rest) = truth(args)?;
+    if !given {
+        return Some((None, rest));
     }
+    truth(rest).map(|(value, rest)| (Some(value), rest))
 }
 
 // The same with a word whose upper half is clear.
-#[tactic(auto, unfolding(crate::specs::Kinds::status_of))]
+#[tactic(auto, unfolding(crate::specs::Kinds::status_of, crate::specs::Kinds::truth_of))]
 pub fn status(args: &[u32]) -> Option<(Option<u16>, &[u32])>
     ensures { status_of args.now ≡ option_map (λ p. (p.0, p.1.now)) result }
 {
-    let (given, rest) = word(args)?;
-    match given {
-        0 => Some((None, rest)),
-        1 => half(rest).map(|(value, rest)| (Some(value), rest)),
-        _ => None,
+    let (given, rest) = truth(args)?;
+    if !given {
+        return Some((None, rest));
     }
+    half(rest).map(|(value, rest)| (Some(value), rest))
 }

@@ -5,7 +5,7 @@ use console::listing::listing;
 use std::env::Env;
 use std::io;
 use streams::input::Input;
-use streams::output::flush;
+use streams::output::Waiting;
 
 // The argument `left` asks for one line more.
 fn asks_for_left(rt: &impl Env) -> bool {
@@ -16,18 +16,17 @@ fn asks_for_left(rt: &impl Env) -> bool {
 
 fn main(rt: HostRuntime) -> io::Result<()> {
     let mut buf = [0u8; 65536];
-    let mut out = [0u8; 65536];
+    let mut waiting = Waiting::new();
     let asked = asks_for_left(&rt);
     let mut source = rt.stdin();
     let mut sink = rt.stdout();
-    let l = listing(
+    listing(
         &mut source,
         &mut buf,
         Input::new(false),
         &mut sink,
-        &mut out,
-        0,
+        &mut waiting,
         asked,
     )?;
-    flush(&mut sink, &out, l.n)
+    waiting.flush(&mut sink)
 }

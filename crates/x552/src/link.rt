@@ -15,6 +15,13 @@ use phy::advertise::{Advertise, Advertised};
 use phy::an_link::AnLink;
 use phy::modify::Register;
 
+// What copper_link is given, at its start and at each reply.
+#[derive(Clone, Copy)]
+pub struct CopperCall {
+    pub managed: Managed,
+    pub x557: X557,
+}
+
 // The number is how many waits are left after this one.
 #[derive(Clone, Copy)]
 pub enum CopperLink {
@@ -39,32 +46,31 @@ fn without_100(s: Speeds) -> Speeds
 }
 
 // What the X557 is asked to advertise.
-fn asked(managed: Managed, x557: X557, speeds: Speeds) -> Advertised
-    ensures { asked_of managed x557 speeds ≡ result }
+fn asked(call: CopperCall, speeds: Speeds) -> Advertised
+    ensures { asked_of call speeds ≡ result }
 {
     Advertised {
-        phy: x557.phy as u32,
+        phy: call.x557.phy as u32,
         speeds,
         nbase: None,
-        veto: managed.veto,
+        veto: call.managed.veto,
     }
 }
 
 impl CopperLink {
     #[tactic(auto, using(hardware::proofs::Laws::then_assoc))]
     fn after_advertise(
-        managed: Managed,
-        x557: X557,
+        call: CopperCall,
         speeds: Speeds,
         step: Step<Job, Advertise, Result<bool, Error>>,
     ) -> Step<Job, CopperLink, Result<CopperSetup, Error>>
-        ensures { (b : List ℕ) → told_link managed x557 b result ≡ advertise_then x557 speeds (told_advertise managed.port (asked_of managed x557 speeds) b step) }
+        ensures { (b : List ℕ) → told_link call b result ≡ advertise_then call.x557 speeds (told_advertise call.managed.port (asked_of call speeds) b step) }
     {
         match step {
             Step::Ask(job, s) => Step::Ask(job, CopperLink::Advertise(speeds, s)),
             Step::Done(Err(e)) => Step::Done(Err(e)),
             Step::Done(Ok(restarted)) => Step::Done(Ok(CopperSetup {
-                x557,
+                x557: call.x557,
                 advertised: speeds,
                 restarted,
             })),
@@ -73,28 +79,26 @@ impl CopperLink {
 
     #[tactic(auto, using(hardware::proofs::Laws::then_assoc))]
     fn advertise(
-        managed: Managed,
-        x557: X557,
+        call: CopperCall,
         speeds: Speeds,
     ) -> Step<Job, CopperLink, Result<CopperSetup, Error>>
-        ensures { (b : List ℕ) → told_link managed x557 b result ≡ copper_advertise managed.port managed.veto x557 speeds }
+        ensures { (b : List ℕ) → told_link call b result ≡ copper_advertise call.managed.port call.managed.veto call.x557 speeds }
     {
-        let step = Advertise::start(asked(managed, x557, speeds), managed.port);
-        CopperLink::after_advertise(managed, x557, speeds, step)
+        let step = Advertise::start(asked(call, speeds), call.managed.port);
+        CopperLink::after_advertise(call, speeds, step)
     }
 
     // Ten waits with no link are no error.
     #[tactic(auto, using(hardware::proofs::Laws::then_assoc, hardware::proofs::Laws::times_more, hardware::proofs::Laws::times_none))]
     fn again(
-        managed: Managed,
-        x557: X557,
+        call: CopperCall,
         speeds: Speeds,
         left: u32,
     ) -> Step<Job, CopperLink, Result<CopperSetup, Error>>
-        ensures { (b : List ℕ) → told_link managed x557 b result ≡ copper_times managed.port managed.veto x557 speeds left }
+        ensures { (b : List ℕ) → told_link call b result ≡ copper_times call.managed.port call.managed.veto call.x557 speeds left }
     {
         if left == 0 {
-            CopperLink::advertise(managed, x557, speeds)
+            CopperLink::advertise(call, speeds)
         } else {
             Step::Ask(Job::Wait(100_000), CopperLink::Waiting(speeds, left - 1))
         }
@@ -102,22 +106,21 @@ impl CopperLink {
 
     #[tactic(auto, using(hardware::proofs::Laws::then_assoc))]
     fn after_linking(
-        managed: Managed,
-        x557: X557,
+        call: CopperCall,
         speeds: Speeds,
         left: u32,
         step: Step<Job, AnLink, Result<bool, Error>>,
     ) -> Step<Job, CopperLink, Result<CopperSetup, Error>>
-        ensures { (b : List ℕ) → told_link managed x557 b result ≡ linking_then managed x557 speeds left (told_an_link managed.port x557.phy b step) }
+        ensures { (b : List ℕ) → told_link call b result ≡ linking_then call speeds left (told_an_link call.managed.port call.x557.phy b step) }
     {
         match step {
             Step::Ask(job, s) => Step::Ask(job, CopperLink::Linking(speeds, left, s)),
             Step::Done(Err(e)) => Step::Done(Err(e)),
             Step::Done(Ok(up)) => {
                 if up {
-                    CopperLink::advertise(managed, x557, speeds)
+                    CopperLink::advertise(call, speeds)
                 } else {
-                    CopperLink::again(managed, x557, speeds, left)
+                    CopperLink::again(call, speeds, left)
                 }
             }
         }
@@ -126,85 +129,77 @@ impl CopperLink {
     // The internal link first: the X557 is asked only where LINKS says that it is up.
     #[tactic(auto, using(hardware::proofs::Laws::then_assoc))]
     fn links(
-        managed: Managed,
-        x557: X557,
+        call: CopperCall,
         speeds: Speeds,
         left: u32,
         links: u32,
     ) -> Step<Job, CopperLink, Result<CopperSetup, Error>>
-        ensures { (b : List ℕ) → told_link managed x557 b result ≡ links_then managed x557 speeds left links }
+        ensures { (b : List ℕ) → told_link call b result ≡ links_then call speeds left links }
     {
         if links & 0x4000_0000 == 0 {
-            return CopperLink::again(managed, x557, speeds, left);
+            return CopperLink::again(call, speeds, left);
         }
-        let step = AnLink::start(x557.phy as u32, managed.port);
-        CopperLink::after_linking(managed, x557, speeds, left, step)
+        let step = AnLink::start(call.x557.phy as u32, call.managed.port);
+        CopperLink::after_linking(call, speeds, left, step)
     }
 
     #[tactic(auto, using(hardware::proofs::Laws::then_assoc))]
     fn after_ixfi(
-        managed: Managed,
-        x557: X557,
+        call: CopperCall,
         speeds: Speeds,
         step: Step<Job, Sequence, Result<u32, Error>>,
     ) -> Step<Job, CopperLink, Result<CopperSetup, Error>>
-        ensures { (b : List ℕ) → told_link managed x557 b result ≡ ixfi_then managed x557 speeds (told_sequence managed.port b step) }
+        ensures { (b : List ℕ) → told_link call b result ≡ ixfi_then call speeds (told_sequence call.managed.port b step) }
     {
         match step {
             Step::Ask(job, s) => Step::Ask(job, CopperLink::Ixfi(speeds, s)),
             Step::Done(Err(e)) => Step::Done(Err(e)),
-            Step::Done(Ok(_)) => CopperLink::again(managed, x557, speeds, 10),
+            Step::Done(Ok(_)) => CopperLink::again(call, speeds, 10),
         }
     }
 
     #[tactic(auto, using(hardware::proofs::Laws::then_assoc), unfolding(reference::specs::X552::ixfi))]
-    fn able(
-        managed: Managed,
-        x557: X557,
-        speeds: Speeds,
-    ) -> Step<Job, CopperLink, Result<CopperSetup, Error>>
-        ensures { (b : List ℕ) → told_link managed x557 b result ≡ copper_able 10 managed.port managed.veto x557 speeds }
+    fn able(call: CopperCall, speeds: Speeds) -> Step<Job, CopperLink, Result<CopperSetup, Error>>
+        ensures { (b : List ℕ) → told_link call b result ≡ copper_able 10 call.managed.port call.managed.veto call.x557 speeds }
     {
-        match x557.internal {
-            Internal::Kr => CopperLink::advertise(managed, x557, speeds),
+        match call.x557.internal {
+            Internal::Kr => CopperLink::advertise(call, speeds),
             Internal::Ixfi => {
-                let step = Sequence::start(KrPlace::Force(speeds.g10), managed.port);
-                CopperLink::after_ixfi(managed, x557, speeds, step)
+                let step = Sequence::start(KrPlace::Force(speeds.g10), call.managed.port);
+                CopperLink::after_ixfi(call, speeds, step)
             }
         }
     }
 
     #[tactic(auto, using(hardware::proofs::Laws::then_assoc, reference::proofs::Laws::bind_assoc), unfolding(reference::specs::X552::copper_link, reference::specs::Mdio::abilities))]
-    pub fn start(managed: Managed, x557: X557) -> Step<Job, CopperLink, Result<CopperSetup, Error>>
-        ensures { (b : List ℕ) → told_link managed x557 b result ≡ copper_link 10 managed.port managed.veto x557 }
+    pub fn start(call: CopperCall) -> Step<Job, CopperLink, Result<CopperSetup, Error>>
+        ensures { (b : List ℕ) → told_link call b result ≡ copper_link 10 call.managed.port call.managed.veto call.x557 }
     {
         Step::Ask(
-            Job::ReadReg(x557.phy as u32, Register::PMA, 4),
+            Job::ReadReg(call.x557.phy as u32, Register::PMA, 4),
             CopperLink::Abilities,
         )
     }
 
     fn after_abilities(
-        managed: Managed,
-        x557: X557,
+        call: CopperCall,
         got: Result<u32, Error>,
     ) -> Step<Job, CopperLink, Result<CopperSetup, Error>>
-        ensures { (b : List ℕ) → told_link managed x557 b result ≡ got_abilities managed x557 got }
+        ensures { (b : List ℕ) → told_link call b result ≡ got_abilities call got }
     {
         match got {
             Err(e) => Step::Done(Err(e)),
-            Ok(v) => CopperLink::able(managed, x557, without_100(speeds_of(v))),
+            Ok(v) => CopperLink::able(call, without_100(speeds_of(v))),
         }
     }
 
     fn after_wait(
-        managed: Managed,
-        x557: X557,
+        call: CopperCall,
         speeds: Speeds,
         left: u32,
         got: Result<u32, Error>,
     ) -> Step<Job, CopperLink, Result<CopperSetup, Error>>
-        ensures { (b : List ℕ) → told_link managed x557 b result ≡ got_wait managed x557 speeds left got }
+        ensures { (b : List ℕ) → told_link call b result ≡ got_wait call speeds left got }
     {
         match got {
             Err(e) => Step::Done(Err(e)),
@@ -213,48 +208,42 @@ impl CopperLink {
     }
 
     fn after_links(
-        managed: Managed,
-        x557: X557,
+        call: CopperCall,
         speeds: Speeds,
         left: u32,
         got: Result<u32, Error>,
     ) -> Step<Job, CopperLink, Result<CopperSetup, Error>>
-        ensures { (b : List ℕ) → told_link managed x557 b result ≡ got_links managed x557 speeds left got }
+        ensures { (b : List ℕ) → told_link call b result ≡ got_links call speeds left got }
     {
         match got {
             Err(e) => Step::Done(Err(e)),
-            Ok(v) => CopperLink::links(managed, x557, speeds, left, v),
+            Ok(v) => CopperLink::links(call, speeds, left, v),
         }
     }
 
     #[tactic(auto, using(hardware::proofs::Laws::then_assoc))]
     pub fn next(
         self,
-        managed: Managed,
-        x557: X557,
+        call: CopperCall,
         got: Result<u32, Error>,
     ) -> Step<Job, CopperLink, Result<CopperSetup, Error>>
-        ensures { (b : List ℕ) → told_link managed x557 b result ≡ resume_link managed x557 self got }
+        ensures { (b : List ℕ) → told_link call b result ≡ resume_link call self got }
     {
         match self {
-            CopperLink::Abilities => CopperLink::after_abilities(managed, x557, got),
+            CopperLink::Abilities => CopperLink::after_abilities(call, got),
             CopperLink::Ixfi(speeds, s) => {
-                let step = s.next(managed.port, got);
-                CopperLink::after_ixfi(managed, x557, speeds, step)
+                let step = s.next(call.managed.port, got);
+                CopperLink::after_ixfi(call, speeds, step)
             }
-            CopperLink::Waiting(speeds, left) => CopperLink::after_wait(
-                managed, x557, speeds, left, got,
-            ),
-            CopperLink::Links(speeds, left) => CopperLink::after_links(
-                managed, x557, speeds, left, got,
-            ),
+            CopperLink::Waiting(speeds, left) => CopperLink::after_wait(call, speeds, left, got),
+            CopperLink::Links(speeds, left) => CopperLink::after_links(call, speeds, left, got),
             CopperLink::Linking(speeds, left, s) => {
-                let step = s.next(x557.phy as u32, managed.port, got);
-                CopperLink::after_linking(managed, x557, speeds, left, step)
+                let step = s.next(call.x557.phy as u32, call.managed.port, got);
+                CopperLink::after_linking(call, speeds, left, step)
             }
             CopperLink::Advertise(speeds, s) => {
-                let step = s.next(asked(managed, x557, speeds), managed.port, got);
-                CopperLink::after_advertise(managed, x557, speeds, step)
+                let step = s.next(asked(call, speeds), call.managed.port, got);
+                CopperLink::after_advertise(call, speeds, step)
             }
         }
     }

@@ -21,7 +21,7 @@ ghost use Rattle.x553.specs.Firmware.{
 
 use crate::prepare::{FirmwarePlace, FirmwarePrepared, asked, begin};
 use crate::sgmii_an::SgmiiAn;
-use access::access::Job;
+use access::access::{Ended, Job};
 use activity::Activity;
 use answers::{FirmwarePhy, FirmwareSetup, Words};
 use hardware::{Error, Managed, Port, Step};
@@ -235,33 +235,36 @@ impl SetupFirmware {
         self,
         port: Port,
         block: &mut [u32; 16],
-        got: Result<u32, Error>,
-        words: usize,
+        given: Ended<u32>,
     ) -> Step<Job, SetupFirmware, Result<FirmwareSetup, Error>>
-        ensures { told_firmware port block.new result ≡ resume_firmware port self got (take words block.old) }
+        ensures { told_firmware port block.new result ≡ resume_firmware port self given.answer (take given.words block.old) }
     {
         match self {
             SetupFirmware::Mmngc(phy, down) => SetupFirmware::after_mmngc(
-                port, phy, down, block, got,
+                port,
+                phy,
+                down,
+                block,
+                given.answer,
             ),
             SetupFirmware::Internal(phy, s) => {
-                let step = s.next(port, got);
+                let step = s.next(port, given.answer);
                 SetupFirmware::after_internal(port, phy, block, step)
             }
             SetupFirmware::Link(phy, flx, s) => {
                 let data = phy.speeds as u32 | FirmwarePlace::HP | FirmwarePlace::AN;
                 let link = asked(FirmwarePlace::SETUP_LINK, data);
-                let step = s.next(link, port, block, got, words);
+                let step = s.next(link, port, block, given);
                 SetupFirmware::after_link(port, phy, flx, block, step)
             }
             SetupFirmware::Info(phy, flx, s) => {
                 let info = asked(SetupFirmware::GET_LINK_INFO, 0);
-                let step = s.next(info, port, block, got, words);
+                let step = s.next(info, port, block, given);
                 SetupFirmware::after_info(port, phy, flx, block, step)
             }
             SetupFirmware::Down(phy, internal, s) => {
                 let down = asked(SetupFirmware::FORCE_LINK_DOWN, 1);
-                let step = s.next(down, port, block, got, words);
+                let step = s.next(down, port, block, given);
                 SetupFirmware::after_down(port, phy, internal, step)
             }
         }

@@ -5,7 +5,7 @@ ghost use Rattle.reference.specs.Hostif.{phy_activity};
 ghost use Rattle.reference.specs.X553.{phy_info, prepare_info, prepare_firmware};
 ghost use Rattle.x553.specs.Prepare.{asked_with, begun_with, info_of, asked_of, info_then, place_at, place_then, place_done, resume_prepare, told_prepare};
 
-use access::access::Job;
+use access::access::{Ended, Job};
 use activity::{Activity, Asked};
 use answers::{FirmwarePhy, Words};
 use hardware::{Error, Managed, Port, Step};
@@ -208,19 +208,18 @@ impl PrepareFirmware {
         self,
         managed: Managed,
         block: &mut [u32; 16],
-        got: Result<u32, Error>,
-        words: usize,
+        given: Ended<u32>,
     ) -> Step<Job, PrepareFirmware, Result<FirmwarePrepared, Error>>
-        ensures { told_prepare managed block.new result ≡ resume_prepare managed self got (take words block.old) }
+        ensures { told_prepare managed block.new result ≡ resume_prepare managed self given.answer (take given.words block.old) }
     {
         match self {
             PrepareFirmware::Info(s) => {
                 let info = asked(FirmwarePlace::GET_PHY_INFO, 0);
-                let step = s.next(info, managed.port, block, got, words);
+                let step = s.next(info, managed.port, block, given);
                 PrepareFirmware::after_info(managed, block, step)
             }
             PrepareFirmware::Then(place, phy, s) => {
-                let step = s.next(place.asked(phy), managed.port, block, got, words);
+                let step = s.next(place.asked(phy), managed.port, block, given);
                 PrepareFirmware::after_place(place, phy, managed, block, step)
             }
         }

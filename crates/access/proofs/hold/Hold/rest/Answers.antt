@@ -3,6 +3,6 @@ use Rattle.reference.specs.Hostif.{token}
 use Rattle.reference.specs.Acquire.{release_rest}
 use Rattle.access.proofs.hold.Hold.rest.Goals as goal
 
-pub returns-else-hw-eq0 : goal.returns-else-hw-eq0
+pub returns-else-call-eq0 : goal.returns-else-call-eq0
 unfolding release_rest token
-returns-else-hw-eq0 c = λ b. simp (ne_eqb _ _ c.if-hw-eq0.false, c.give.ensures, c.returned.ensures)
+returns-else-call-eq0 c = λ b. simp (ne_eqb _ _ c.if-call-eq0.false, c.give.ensures, c.returned.ensures)

@@ -4,7 +4,7 @@ use Rattle.packed.proofs.Width.Access.{drop_access}
 use Rattle.packed.proofs.Width.Hardware.{drop_action}
 use Rattle.packed.specs.Started.{words_place, get_place}
 use Rattle.packed.specs.Tape.{word_at}
-use Rattle.packed.proofs.p_started.StepActionOpEndedPacked.put.Goals as goal
+use Rattle.packed.proofs.p_started.StepActionOpEndedValuePacked.put.Goals as goal
 
 pub returns-in-Done-clause-adds : goal.returns-in-Done-clause-adds
 unfolding words_place
