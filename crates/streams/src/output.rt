@@ -42,13 +42,22 @@ impl Waiting {
             self.len = len;
             return Ok(());
         }
-        self.flush(sink)?;
+        self.write(sink)?;
         self.len = text::put(&mut self.bytes, 0, bytes).unwrap_or(0);
         Ok(())
     }
 
-    // All that wait are written.
-    pub fn flush<W: Write>(&self, sink: &mut W) -> io::Result<()>
+    // All that wait are written, and none waits then.
+    pub fn flush<W: Write>(&mut self, sink: &mut W) -> io::Result<()>
+        ensures written { OnOk result (Appends (W.contents sink.old) (W.contents sink.new) self.old) }
+        ensures none { OnOk result (self.new ≡ []) }
+    {
+        self.write(sink)?;
+        self.len = 0;
+        Ok(())
+    }
+
+    fn write<W: Write>(&self, sink: &mut W) -> io::Result<()>
         ensures { OnOk result (Appends (W.contents sink.old) (W.contents sink.new) self.now) }
     {
         sink.write_all(&self.bytes[..self.len])

@@ -15,5 +15,5 @@ invariant_of-self-3 g c =
 
 pub returns : goal.returns
 returns g c = λ fits.
-    put_alone _ _ _ _ _ _ _ _ (sym c.self.view_is) c.in_default.ensures c.in_ok-flush.ensures c.put-2.ensures c.unwrap_or-self-inside.ensures
+    put_alone _ _ _ _ _ _ _ _ (sym c.self.view_is) c.in_default.ensures c.in_ok-write.ensures c.put-2.ensures c.unwrap_or-self-inside.ensures
     (omega (arith, fits, c.put.auto.out, c.self.told))
