@@ -3,6 +3,8 @@ use Rattle.std.specs.Prelude.{ℕ, List, Option, Some, None, Result, Ok, Err}
 use Rattle.text.specs.Words.{words}
 use Rattle.lines.specs.Reply.{reply_of}
 use Rattle.streams.specs.Part.{part_of}
+use Rattle.streams.specs.declared.due.Answered.{Answered}
+use Rattle.streams.specs.declared.input.Fetched.{Fetched}
 use Rattle.streams.specs.declared.input.Next.{Next}
 use Rattle.streams.specs.declared.input.Next.TheVariants.{Line, Ended, Long}
 use Rattle.streams.specs.declared.due.Fault.{Fault}
@@ -21,3 +23,11 @@ abbrev pub due_of : List ℕ → Next → Result (ℕ × ℕ) Fault
 due_of buf (Line start end) = due_reply (reply_of (words (part_of buf start end)))
 due_of buf Ended = Err NoReply
 due_of buf Long = Err BadLine
+
+-- what an action that takes a reply is answered
+abbrev pub answered : Result (ℕ × ℕ) Fault → Result (Option (ℕ × ℕ)) Fault
+answered (Ok pair) = Ok (Some pair)
+answered (Err fault) = Err fault
+
+abbrev pub answered_of : List ℕ → Fetched → Answered
+answered_of buf f = record { due = answered (due_of buf f.next); input = f.input }

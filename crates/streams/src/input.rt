@@ -1,6 +1,8 @@
 // A reader's bytes, a line at a time.
-ghost use Rattle.std.specs.Prelude.{◌≡◌, false, ◌≤◌, length};
-ghost use Rattle.streams.specs.Input.{input, is_case, look_in, is_full, found_in};
+ghost use Rattle.std.specs.Prelude.{◌≡◌, false, ◌≤◌, length, Some, ◌⊎◌};
+ghost use Rattle.streams.specs.Input.{input, is_case, look_in, is_full, found_in, there, Fetches};
+ghost use Rattle.streams.specs.declared.input.Input.{Input};
+ghost use Rattle.streams.specs.declared.input.Next.TheVariants.{Long};
 
 use crate::part::part;
 use lines::buffer::Seen;
@@ -119,34 +121,52 @@ fn found(buf: &[u8], input: Input, start: usize, end: usize, next: usize) -> Fet
     }
 }
 
-// The next line. A loop has to end, so its turns are counted: a read that adds nothing ends the input, so it takes no more
-// turns than the buffer has bytes, and two.
-pub fn fetch<R: Read>(source: &mut R, buf: &mut [u8], input: Input) -> Fetched {
+// What the buffer gives as it is; none where more is to be read.
+fn there(buf: &[u8], input: Input) -> Option<Fetched>
+    ensures { there buf.now input ≡ result }
+{
+    match look(buf, input) {
+        Seen::Line { start, end, next } => Some(found(buf, input, start, end, next)),
+        Seen::Ended => Some(Fetched {
+            next: Next::Ended,
+            input,
+        }),
+        Seen::More => {
+            if is_full(buf, input) {
+                return Some(Fetched {
+                    next: Next::Long,
+                    input,
+                });
+            }
+            None
+        }
+    }
+}
+
+// A loop has to end, so its turns are counted: a read that adds nothing ends the input, so it takes no more turns than the
+// buffer has bytes, and two.
+fn read_on<R: Read>(source: &mut R, buf: &mut [u8], input: Input) -> Fetched
+    ensures { ((i : Input) × (there buf.new i ≡ Some result)) ⊎ (result.next ≡ Long) }
+{
     let mut now = input;
     for _ in 0..70000 {
-        match look(buf, now) {
-            Seen::Line { start, end, next } => {
-                return found(buf, now, start, end, next);
-            }
-            Seen::Ended => {
-                return Fetched {
-                    next: Next::Ended,
-                    input: now,
-                };
-            }
-            Seen::More => {
-                if is_full(buf, now) {
-                    return Fetched {
-                        next: Next::Long,
-                        input: now,
-                    };
-                }
-                now = fill(source, buf, now);
-            }
+        now = fill(source, buf, now);
+        if let Some(fetched) = there(buf, now) {
+            return fetched;
         }
     }
     Fetched {
         next: Next::Long,
         input: now,
+    }
+}
+
+// The next line. Nothing is read where the buffer has it, or its end.
+pub fn fetch<R: Read>(source: &mut R, buf: &mut [u8], input: Input) -> Fetched
+    ensures { Fetches buf.old input buf.new result }
+{
+    match there(buf, input) {
+        Some(fetched) => fetched,
+        None => read_on(source, buf, input),
     }
 }
