@@ -26,7 +26,7 @@
 
 typedef struct {
     uint32_t words[65]; /* what they mean may change; words that are no conversation's are refused */
-    uint32_t block[16]; /* the host block of a `command`; at its end, the words of its reply */
+    uint32_t block[16]; /* the host block of a `command`; at its end, with the words of its reply that were read */
 } mansruoy_conversation;
 
 /* number 0: the conversation as it is now; else what was handed in, and from `begin` words that are no conversation's */
@@ -56,7 +56,8 @@ typedef struct {
 } mansruoy_ran;
 
 /* Begins an operation. Family 552 or 553. Name and arguments are those of the tracer's second line: for example "kr_read" with
- * the address, "bringup" with veto (0 or 1), "poll" with phy, internal (0 iXFI, 1 KR), forced (0, or 1 and the status), reforced. */
+ * the address, "bringup" with veto (0 or 1), "poll" with phy, internal (0 iXFI, 1 KR), forced (0, or 1 and the status), reforced.
+ * docs/OPERATIONS.md has the arguments, the answer's words and the errors of each. */
 mansruoy_stepped mansruoy_begin(uint32_t family, uint32_t device, uint32_t lan, const char *name, size_t name_len,
                                 const uint32_t *arguments, size_t arguments_len);
 

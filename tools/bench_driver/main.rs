@@ -1,75 +1,28 @@
 //! The benchmark's driver: the Rust and the port do the same operations, in one program.
 //!
-//! It is built beside the oracle's copy of the Rust (tools/bench does that) and linked with the port's library. A small
-//! simulated device answers the Rust once, and its replies are kept; no line of the port takes part in making them. Then
-//! the Rust, over a host that hands out those replies and writes each action's three words down, and the port's `run`,
-//! over the same replies, are checked to give the same transcript, answer and counts, and are timed in turn.
+//! It is built in a copy of the oracle's build folder (tools/bench does that), whose reading of lines it uses, and linked with the
+//! port's library. The replies come with the jobs (jobs.rs); no line of the port took part in making them. The Rust, over a host
+//! that hands out those replies and writes each action's three words down, and the port's `run`, over the same replies, are
+//! checked to give the same transcript, answer and counts, and those that the oracle printed, and are timed in turn.
 
-#[path = "hardware.rs"]
+#[path = "rust/hardware.rs"]
 #[allow(dead_code, unused_imports)]
 mod hw;
-mod device;
+mod jobs;
+mod lines;
 mod port;
 mod stack;
 
-use device::{Device, Mood};
 use hw::{mdio, sync, x552, x553, Error, Family, Port, Registers};
+use jobs::{Given, Job, What};
 use std::hint::black_box;
 use std::time::Instant;
 
-// ---- What is done ------------------------------------------------------------
-
-#[derive(Clone, Copy)]
-pub enum What {
-    Acquire(u32),
-    KrRead(u32),
-    Bringup(bool),
-    /// phy; nothing is forced yet
-    Poll(u32, x552::Internal),
-}
-
-#[derive(Clone, Copy)]
-struct Job {
-    name: &'static str,
-    port: Port,
-    what: What,
-    mood: Mood,
-}
-
-fn jobs() -> Vec<Job> {
-    let port = |family, device| Port { family, device, lan: 0 };
-    let (x552, x553) = (port(Family::X552, 0x15ad), port(Family::X553, 0x15c8));
-    let busy = Mood { ctrl: 99, ..Mood::QUIET };
-    let held = Mood { smbi: true, ..Mood::QUIET };
-    let some = Mood { ctrl: 2, msca: 2, links: 3, hicr: 3, ..Mood::QUIET };
-    vec![
-        Job { name: "kr_read, busy 99 times twice", port: x552, what: What::KrRead(0x420c), mood: busy },
-        Job { name: "acquire, SMBI wait of 2000", port: x552, what: What::Acquire(6), mood: held },
-        Job { name: "bringup, X552 copper", port: x552, what: What::Bringup(false), mood: some },
-        Job { name: "bringup, X553 with token", port: x553, what: What::Bringup(false), mood: some },
-        Job { name: "poll that re-forces, iXFI", port: x552, what: What::Poll(0, x552::Internal::Ixfi), mood: some },
-    ]
-}
-
-/// Number (0: well ended) and words of what an operation gives, as in a listing.
-#[derive(Clone, Copy, PartialEq, Debug)]
-pub struct Given {
-    number: u32,
-    len: usize,
-    words: [u32; 12],
-}
-
-impl Given {
-    pub fn new(number: u32, all: &[u32]) -> Given {
-        let mut words = [0; 12];
-        words[..all.len()].copy_from_slice(all);
-        Given { number, len: all.len(), words }
-    }
-}
+// ---- The Rust's operations ----------------------------------------------------------
 
 fn copper_words(s: x552::Setup) -> Given {
     let x552::Setup::Copper { phy, id, sel, unstalled, reset, internal, advertised, restarted } = s else {
-        panic!("the device leads to a copper port")
+        panic!("the chip leads to a copper port")
     };
     let mdio::Speeds { g10, g1, m100 } = advertised;
     let internal = (internal == x552::Internal::Kr) as u32;
@@ -78,16 +31,13 @@ fn copper_words(s: x552::Setup) -> Given {
 }
 
 fn setup_words(s: x553::Setup) -> Given {
-    let x553::Setup::X557(s) = s else { panic!("the device leads to a copper port") };
-    let inner = copper_words(s);
-    let mut all = [5; 12];
-    all[1..].copy_from_slice(&inner.words[..11]);
-    Given::new(0, &all)
+    let x553::Setup::X557(s) = s else { panic!("the chip leads to a copper port") };
+    copper_words(s).behind(5)
 }
 
 fn poll_words(copper: x552::Copper, watch: x552::Watch) -> Given {
     let (x552::Copper::Up { megabits }, Some(status)) = (copper, watch.forced) else {
-        panic!("the device leads to a forced link")
+        panic!("the chip leads to a forced link")
     };
     Given::new(0, &[1, megabits, 1, status as u32, watch.reforced])
 }
@@ -182,16 +132,17 @@ fn over(port: Port, what: What, replies: &[u32], transcript: &mut [u32]) -> (Giv
     (given, [host.actions, host.micros, host.at as u64, host.used as u64])
 }
 
-/// Both do the same work, or the benchmark stops.
-fn check(name: &str, shown: Given, actions: usize, port: Port, what: What, replies: &[u32]) {
+/// Both do the same work, which is what the oracle said, or the benchmark stops.
+fn check(job: &Job) {
+    let Job { name, port, what, replies, given, actions, micros } = job;
     // Room for one action more, which would be seen.
     let (mut a, mut b) = (vec![9; 3 * actions + 3], vec![9; 3 * actions + 3]);
-    let (given, counts) = over(port, what, replies, &mut a);
-    assert_eq!((given, counts[0], counts[3]), (shown, actions as u64, replies.len() as u64), "{name}: the script");
+    let counts = [*actions as u64, *micros, 3 * *actions as u64, replies.len() as u64];
+    assert_eq!(over(*port, *what, replies, &mut a), (*given, counts), "{name}: the Rust");
     for call in [port::run, port::steps] {
         b.fill(9);
-        let r = call(port, what, replies, &mut b);
-        assert_eq!(r.given(), Some(given), "{name}: the answer");
+        let r = call(*port, *what, replies, &mut b);
+        assert_eq!(r.given(), Some(*given), "{name}: the answer");
         assert_eq!([r.actions, r.micros, r.at, r.used], counts, "{name}: the counts");
         assert!(a == b, "{name}: the transcript");
     }
@@ -201,11 +152,9 @@ fn main() {
     let millis: f64 = std::env::args().nth(1).map_or(20.0, |w| w.parse().expect("milliseconds of a round"));
     println!("nanoseconds per action         actions      Rust       run   ratio     calls      rest   ratio      step   ratio");
     let mut sizes = vec![];
-    for Job { name, port, what, mood } in jobs() {
-        let mut device = Device::new(mood);
-        let shown = rust(&mut device, port, what);
-        let Device { replies, actions, .. } = device;
-        check(name, shown, actions, port, what, &replies);
+    for job in jobs::read() {
+        check(&job);
+        let Job { name, port, what, replies, actions, .. } = job;
         let mut t = vec![0; 3 * actions];
         let mut ours = |call: fn(Port, What, &[u32], &mut [u32]) -> port::Ran, count| {
             timed(count, || { black_box(call(port, black_box(what), &replies, &mut t)); })

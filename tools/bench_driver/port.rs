@@ -1,6 +1,6 @@
 //! The port, behind its C functions (c/mansruoy.h).
 use crate::hw::{x552, Family, Port};
-use crate::{Given, What};
+use crate::jobs::{Given, What};
 
 #[repr(C)]
 #[derive(Clone, Copy)]

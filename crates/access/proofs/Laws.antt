@@ -13,7 +13,7 @@ use Rattle.reference.specs.Acquire.{acquire, release, locked}
 use Rattle.reference.specs.Mdio.{mask, read_reg, write_reg, write_body}
 use Rattle.reference.specs.X552.{kr_read, kr_write, kr_write_body, nvm_word}
 use Rattle.mdio.specs.declared.mdio.Wanted.TheVariants as wanted
-use Rattle.sideband.specs.declared.kr.KrWanted.TheVariants as kr
+use Rattle.sideband.specs.declared.kr_access.KrWanted.TheVariants as kr
 use Rattle.access.specs.Access.{no_word, under_talk}
 use Rattle.access.specs.Locked.{zero_of}
 use Rattle.access.specs.declared.body.Held.TheVariants as held

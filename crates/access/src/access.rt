@@ -16,8 +16,8 @@ use drive::machine::Machine;
 use hardware::{Action, Error, Family, Port, Regs, Reply, Step, checked, done};
 use hostif::command::Command;
 use mdio::mdio::Wanted;
-use sideband::kr::KrWanted;
-use words::mdio::address;
+use sideband::kr_access::KrWanted;
+use words::msca::address;
 use words::semaphore::Bits;
 
 #[derive(Clone, Copy)]

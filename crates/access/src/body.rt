@@ -9,7 +9,7 @@ use drive::machine::Machine;
 use hardware::{Action, Error, Reply, Step};
 use mdio::mdio::{Mdio, Wanted};
 use sideband::idle::Idle;
-use sideband::kr::{Kr, KrCall, KrWanted};
+use sideband::kr_access::{Kr, KrCall, KrWanted};
 use sideband::nvm::Nvm;
 
 // What the lock is for, with the Rust's arguments.

@@ -7,7 +7,7 @@ use Rattle.hardware.specs.declared.Port.{Port}
 use Rattle.reference.specs.Hostif.{command, activity_times, activity_answer}
 use Rattle.hostif.proofs.Bytes.{status_cut}
 use Rattle.activity.specs.Activity.{block_of, activity_got}
-use Rattle.activity.specs.declared.Asked.{Asked}
+use Rattle.arguments.specs.declared.Asked.{Asked}
 
 pub activity_cut : (port : Port) (asked : Asked) (n : ℕ) (b : List ℕ)
     → and_then (command port b) (λ p. activity_got port asked n p.0 p.1)

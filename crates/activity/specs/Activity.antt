@@ -12,7 +12,7 @@ use Rattle.access.specs.Access.{job_talk}
 use Rattle.access.specs.declared.access.Job.TheVariants as job
 use Rattle.activity.specs.declared.Activity.{Activity}
 use Rattle.activity.specs.declared.Activity.TheVariants as activity
-use Rattle.activity.specs.declared.Asked.{Asked}
+use Rattle.arguments.specs.declared.Asked.{Asked}
 
 -- the Rust's functions, of these arguments
 abbrev pub block_of : Port → Asked → List ℕ

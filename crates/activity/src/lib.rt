@@ -7,15 +7,9 @@ ghost use Rattle.activity.specs.Activity.{block_of, activity_of, activity_got, b
 
 use access::access::{Ended, Job};
 use answers::Words;
+use arguments::Asked;
 use hardware::{Error, Port, Step};
-use words::hostif::swap_bytes;
-
-// phy_activity's arguments.
-#[derive(Clone, Copy)]
-pub struct Asked {
-    pub activity: u16,
-    pub data: Words,
-}
+use words::host_words::swap_bytes;
 
 #[derive(Clone, Copy)]
 pub enum Activity {

@@ -13,10 +13,10 @@ use Rattle.hardware.specs.declared.Step.{Step}
 use Rattle.access.specs.declared.access.Ended.{Ended}
 use Rattle.answers.specs.declared.Value.{Value}
 use Rattle.packed.proofs.Width.Hardware.{family_length}
-use Rattle.conversation.specs.Conversation.{number}
+use Rattle.calls.specs.Conversation.{number}
 use Rattle.conversation.specs.declared.conversation.Conversation.{Conversation}
-use Rattle.conversation.specs.declared.conversation.Stop.{Stop}
-use Rattle.conversation.specs.declared.conversation.Stop.TheVariants as stop
+use Rattle.calls.specs.declared.Stop.{Stop}
+use Rattle.calls.specs.declared.Stop.TheVariants as stop
 use Rattle.started.specs.declared.operation.Op.{Op}
 use Rattle.packed.specs.Started.{words_place, get_place}
 use Rattle.border.specs.Held.{words_of}

@@ -1,18 +1,18 @@
 -- What a call from C comes to
 use Rattle.std.specs.Prelude.{ℕ, List, [], eqb, length, take, replicate, Option, Some, None, Ok, Err}
 use Rattle.hardware.specs.Numbers as error
-use Rattle.hardware.specs.Refusal.{refusal}
 use Rattle.hardware.specs.Talk.{Talk, ask, end, Res, pick}
 use Rattle.hardware.specs.declared.Port.{Port}
 use Rattle.answers.specs.Fields.{value}
 use Rattle.answers.specs.declared.Value.{Value}
 use Rattle.drive.specs.Act as act
-use Rattle.conversation.specs.Conversation.{Conv, Step, conv_of, begun, number, step_talk}
-use Rattle.start.specs.Operation.{phy_of, device_of}
-use Rattle.started.specs.Operation.{Out}
+use Rattle.calls.specs.Conversation.{Conv, Step, begun, number, step_talk}
+use Rattle.conversation.specs.Conversation.{conv_of}
+use Rattle.operations.specs.Addresses.{refused}
+use Rattle.reference.specs.Out.{Out}
 use Rattle.drive.specs.Moves.{Tape}
-use Rattle.conversation.specs.Run.{Shown, tape_of, left, run_all}
-use Rattle.start.specs.declared.operation.Operation.{Operation}
+use Rattle.calls.specs.Run.{Shown, tape_of, left, run_all}
+use Rattle.operations.specs.declared.Operation.{Operation}
 use Rattle.trace.specs.Kinds.{Line}
 use Rattle.border.specs.Held.{held_by, is_held}
 use Rattle.border.specs.declared.held.Held.{Held}
@@ -39,7 +39,7 @@ opened (Err e) c = stayed (error.number e) nothing
 opened (Ok u) c = went c
 
 unfoldable pub opens : Port → Operation → List ℕ → Outcome
-opens p what ws = opened (refusal p (phy_of what) (device_of what) (length ws)) (begun p what ws)
+opens p what ws = opened (refused p what ws) (begun p what ws)
 
 -- 28 for a port or an operation that is none, or arguments that are not the operation's
 abbrev pub begins_line : Port → Line → List ℕ → Outcome

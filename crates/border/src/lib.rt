@@ -18,7 +18,7 @@ use conversation::conversation::Conversation;
 use conversation::run::run;
 use drive::{kind_of, register_of, value_of};
 use hardware::{Error, Port, Step};
-use start::operation::Operation;
+use operations::Operation;
 use trace::operation::named;
 
 // What `mansruoy_begin` and `mansruoy_step` answer: 0 and the conversation as it is now, or a number and what was handed in.
@@ -72,7 +72,7 @@ const NOTHING: Held = Held {
 fn open(port: Port, what: Operation, block: &[u32]) -> Stepped
     ensures { outcome_of result.number result.to ≡ opens port what block.now }
 {
-    match port.refusal(what.phy(), what.device(), block.len()) {
+    match what.refused(port, block) {
         Err(e) => Stepped {
             number: error_number(e),
             to: NOTHING,

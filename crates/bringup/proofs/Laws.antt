@@ -13,7 +13,7 @@ use Rattle.answers.specs.declared.Value.{Value}
 use Rattle.answers.specs.declared.Value.TheVariants as value
 use Rattle.reference.specs.X552.{kr_autoneg, mdio_clock, vetoed}
 use Rattle.reference.specs.X553.{firmware_phy, slow_device}
-use Rattle.reference.specs.Operations.{bringup}
+use Rattle.reference.specs.Bringup.{bringup}
 use Rattle.reference.proofs.Laws.{pick_then, bind_assoc}
 use Rattle.phy.specs.Clock.{speed_of}
 use Rattle.bringup.specs.Bringup.{devices_of}

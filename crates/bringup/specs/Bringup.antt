@@ -15,7 +15,7 @@ use Rattle.answers.specs.declared.Setup553.TheVariants as setup553
 use Rattle.answers.specs.declared.Value.{Value}
 use Rattle.answers.specs.declared.Value.TheVariants as value
 use Rattle.answers.specs.declared.X557.{X557}
-use Rattle.reference.specs.Operations.{bringup552, bringup553}
+use Rattle.reference.specs.Bringup.{bringup552, bringup553}
 use Rattle.reference.specs.X552.{kr_autoneg, copper_link, vetoed}
 use Rattle.reference.specs.X552 as x552
 use Rattle.reference.specs.X553.{sgmii, prepare_device, setup_prepared}

@@ -3,7 +3,7 @@
 
 ghost use Rattle.std.specs.Prelude.{ℕ, List, ◌≡◌, take};
 ghost use Rattle.hardware.specs.declared.Family.TheVariants.{X552, X553};
-ghost use Rattle.reference.specs.Operations.{bringup};
+ghost use Rattle.reference.specs.Bringup.{bringup};
 ghost use Rattle.reference.specs.X552.{prepare_copper};
 ghost use Rattle.reference.specs.X553.{prepare_firmware};
 ghost use Rattle.kr.specs.Sequence.{told_sequence};
@@ -322,7 +322,7 @@ impl Bringup {
         }
     }
 
-    #[tactic(auto, unfolding(reference::specs::Operations::bringup))]
+    #[tactic(auto, unfolding(reference::specs::Bringup::bringup))]
     pub fn start(
         managed: Managed,
         block: &mut [u32; 16],

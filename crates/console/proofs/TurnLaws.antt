@@ -4,10 +4,11 @@ use mathlib.Core.Path.{◌≡◌, ap, ◌∙◌}
 use mathlib.Core.List.{List, [], ◌∷◌, append-nil}
 use native.Mathlib.Omega.{arith}
 use lib.ListN.{length, get_or, take}
-use Rattle.conversation.specs.Conversation.{Conv}
-use Rattle.conversation.specs.Run.{Shown, shown_of, left}
+use Rattle.calls.specs.Conversation.{Conv}
+use Rattle.calls.specs.Run.{Shown, left}
+use Rattle.conversation.specs.Run.{shown_of}
 use Rattle.conversation.specs.declared.run.Ran.{Ran}
-use Rattle.conversation.proofs.Theorems.{Placed, placed}
+use Rattle.calls.proofs.Theorems.{Placed, placed}
 use Rattle.lines.specs.Listing.{action_text, lines_text}
 use Rattle.console.specs.Turn.{ran_three, Turn}
 

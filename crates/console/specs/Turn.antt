@@ -1,7 +1,8 @@
 -- A run into a transcript of three words, and the lines of what it wrote there
 use Rattle.std.specs.Prelude.{ℕ, ◌≡◌, List, [], ◌∷◌, take}
-use Rattle.conversation.specs.Conversation.{Conv, conv_of}
-use Rattle.conversation.specs.Run.{Shown, left, run_all}
+use Rattle.calls.specs.Conversation.{Conv}
+use Rattle.conversation.specs.Conversation.{conv_of}
+use Rattle.calls.specs.Run.{Shown, left, run_all}
 use Rattle.lines.specs.Listing.{lines_text}
 use Rattle.console.specs.declared.turn.Turned.{Turned}
 

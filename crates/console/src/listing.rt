@@ -1,13 +1,14 @@
 // A listing, from the port's line on.
 ghost use Rattle.std.specs.Prelude.{◌≡◌, take};
-ghost use Rattle.conversation.specs.Conversation.{conv_of, begun};
+ghost use Rattle.calls.specs.Conversation.{begun};
+ghost use Rattle.conversation.specs.Conversation.{conv_of};
 
 use crate::ahead::Moved;
 use crate::talk::talk;
 use conversation::conversation::Conversation;
 use hardware::Port;
 use lines::port::port_line;
-use start::operation::Operation;
+use operations::Operation;
 use std::io;
 use std::io::{Read, Write};
 use streams::due::Fault;

@@ -2,7 +2,8 @@
 use crate::ahead::{Moved, ahead};
 use crate::ending::ended;
 use crate::turn::{Turned, turn};
-use conversation::conversation::{Conversation, Stop};
+use calls::Stop;
+use conversation::conversation::Conversation;
 use hardware::Step;
 use lines::listing::Line;
 use std::io;

@@ -2,7 +2,8 @@
 ghost use Rattle.conversation.specs.Conversation.{conv_of};
 ghost use Rattle.console.specs.Turn.{Turn};
 
-use conversation::conversation::{Conversation, Stop};
+use calls::Stop;
+use conversation::conversation::Conversation;
 use conversation::run::run;
 use lines::listing::{Line, action_line};
 

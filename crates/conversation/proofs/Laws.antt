@@ -1,39 +1,23 @@
 -- What the code's functions need of the definitions
-use Rattle.hardware.specs.Talk.{Talk, ask, end, Reply}
-use Rattle.std.proofs.Common.{◌≡◌, ℕ, suc, ◌+◌, ◌-◌, ◌<◌, ◌≤◌, true, false, List, [], ◌∷◌, ◌++◌, length, get_or, take, drop, set, replicate, sym, refl, ap, ◌∙◌, append-nil, add-zero, add_assoc, add-suc, suc-add, zero-add, arith, length-drop, take-append-drop, drop_of_length-le, length-take-le, take_all, drop-drop, take_at, le-ltb, lt-ltb, Ok}
-use lib.Seq.{sets, length-sets}
-use Rattle.hardware.specs.Refusal.{refusal}
-use Rattle.hardware.specs.declared.Port.{Port}
-use Rattle.reference.specs.Operations.{operation}
+use Rattle.hardware.specs.Talk.{Talk}
+use Rattle.std.proofs.Common.{◌≡◌, ℕ, ◌+◌, ◌-◌, ◌≤◌, List, ◌++◌, length, take, drop, replicate, refl, ap, ◌∙◌, append-nil, arith, length-drop, drop_of_length-le, length-take-le, take_all, take_at, Ok}
 use Rattle.hardware.specs.declared.Action.{Action}
-use Rattle.drive.specs.Act.{uses, words, reply_for}
-use Rattle.drive.specs.Moves.{Tape, on_tape, Moves, stays, goes}
-use Rattle.conversation.specs.Conversation.{Conv, conv_of, gone, refuses, step_talk, padded, opening, begun}
-use Rattle.start.specs.Operation.{phy_of, device_of, op_of}
-use Rattle.started.specs.Operation.{Out, told}
-use Rattle.conversation.specs.Run.{
-  Run,
-  Shown,
-  stopped,
-  run_talk,
-  after,
-  tape_of,
-  shown,
-  shown_of,
-  run_on,
-  run_into,
-  bad,
-  refused_run,
-  run_from,
-  run_all,
-}
-use Rattle.conversation.specs.declared.conversation.Stop.TheVariants.{Done, AfterEnd, BadReply, NoReply, NoRoom}
-use Rattle.conversation.specs.declared.conversation.Conversation as code
-use Rattle.start.specs.declared.operation.Operation.{Operation}
+use Rattle.hardware.specs.declared.Port.{Port}
 use Rattle.hardware.specs.declared.Step.{Step}
 use Rattle.access.specs.declared.access.Ended.{Ended}
 use Rattle.answers.specs.declared.Value.{Value}
+use Rattle.reference.specs.Out.{Out}
+use Rattle.operations.specs.Addresses.{refused}
+use Rattle.operations.specs.Operations.{operation}
+use Rattle.operations.specs.declared.Operation.{Operation}
+use Rattle.started.specs.Operation.{told}
 use Rattle.started.specs.declared.operation.Op.{Op}
+use Rattle.calls.specs.Conversation.{Conv, opening, begun}
+use Rattle.calls.specs.Run.{run_into}
+use Rattle.calls.proofs.Laws.{run_part}
+use Rattle.conversation.specs.Conversation.{conv_of, padded}
+use Rattle.conversation.specs.Run.{shown_of}
+use Rattle.conversation.specs.declared.conversation.Conversation as code
 use Rattle.conversation.specs.declared.run.Ran.{Ran}
 
 -- the words under it are still in a block that was padded
@@ -41,110 +25,17 @@ pub take_padded : (ws : List ℕ) → take (length ws) (padded ws) ≡ ws
 take_padded ws = take_at ws (drop (length ws) (replicate 16 0)) (length ws) refl
 
 -- a call that is not turned away begins with the operation, on the words that were copied
-pub not_refused : (port : Port) (what : Operation) (ws block : List ℕ) {t : Talk Out} {phy device : ℕ} → phy_of what ≡ phy → device_of what ≡ device
-    → refusal port phy device (length ws) ≡ Ok tt → block ≡ padded ws → t ≡ operation port (op_of what (take (length ws) block))
+pub not_refused : (port : Port) (what : Operation) (ws block : List ℕ) {t : Talk Out} → refused port what ws ≡ Ok tt
+    → block ≡ padded ws → t ≡ operation port what (take (length ws) block)
     → opening port t ≡ begun port what ws
-not_refused port what ws block {t} p d r b e =
+not_refused port what ws block r b e =
     let words : take (length ws) block ≡ ws = ap (take (length ws)) b ∙ take_padded ws in
-    let says : t ≡ operation port (op_of what ws) = e ∙ ap (λ (l : List ℕ). operation port (op_of what l)) words in
-    ap (opening port) says ∙ rw (p, d, r)
+    let says = e ∙ ap (operation port what) words in
+    ap (opening port) says ∙ rw r
 
 -- what a conversation says where it stands at a place that is known
 pub at_place : (c : code.Conversation) {p : Step Action Op (Ended Value)} → c.place ≡ p → (conv_of c).talk ≡ told c.port p c.block
 at_place c e = ap (λ (p : Step Action Op (Ended Value)). told c.port p c.block) e
-
--- a step of a conversation that asks for an action
-module _ (c : Conv) (kind value : ℕ) {a : Action} {k : Reply → Talk Out} (e : c.talk ≡ ask a k) where
-  pub step_refused : refuses a kind ≡ true → record { stop = BadReply; to = c } ≡ step_talk c kind value
-  step_refused h = rw (e, h)
-
-  pub step_done : {r : Reply} {to : Conv} → refuses a kind ≡ false → reply_for a (kind ∷ value ∷ []) ≡ r → to ≡ gone c a (k r) → record { stop = Done; to = to } ≡ step_talk c kind value
-  step_done h er eto = rw (e, eto, ← er, h)
-
--- the script's check, two words at a time
-pub bad_short : (rs : List ℕ) → 0 < length rs → length rs < 2 → bad rs ≡ true
-bad_short [] h k = absurd (omega (arith, h))
-bad_short (kind ∷ []) h k = refl
-bad_short (kind ∷ value ∷ rs) h k = absurd (omega (arith, k))
-
-pub bad_first : (p q : List ℕ) → 2 ≤ length p → 1 < get_or p 0 0 → bad (p ++ q) ≡ true
-bad_first [] q h k = absurd (omega (arith, h))
-bad_first (kind ∷ []) q h k = absurd (omega (arith, h))
-bad_first (kind ∷ value ∷ p) q h k = simp (lt-ltb _ _ k)
-
-pub bad_then : (p q : List ℕ) → length p ≡ 2 → get_or p 0 0 ≤ 1 → bad (p ++ q) ≡ bad q
-bad_then [] q h k = absurd (omega (arith, h))
-bad_then (kind ∷ []) q h k = absurd (omega (arith, h))
-bad_then (kind ∷ value ∷ []) q h k = simp (le-ltb _ _ k)
-bad_then (kind ∷ value ∷ w ∷ p) q h k = absurd (omega (arith, h))
-
--- how a run goes on, and where it stops
-
-run_one : (p : Port) (rs : List ℕ) (t : Tape) (a : Action) (f : Reply → Talk Out) → 3 ≤ length t.transcript - t.at → uses a ≤ length rs - t.used
-    → run_on p (ask a f) rs t ≡ run_on p (f (reply_for a (drop t.used rs))) rs (on_tape t a)
-unfolding run_on
-run_one p rs t a f h k =
-    let room : length (sets t.transcript t.at (words a)) - (t.at + 3) ≡ length t.transcript - t.at - 3 = simp length-sets (omega arith) in
-    simp (le-ltb _ _ h, length-drop, le-ltb _ _ k, drop-drop, room)
-
-run_moves : (p : Port) {rs : List ℕ} {m n : Talk Out} {t u : Tape} → Moves rs m t n u → run_on p n rs u ≡ run_on p m rs t
-run_moves p stays = refl
-run_moves p {rs} (goes {a} {k = f} {t = t} h k q) = run_moves p q ∙ sym (run_one p rs t a f h k)
-
-module _ (p : Port) {rs : List ℕ} {m₀ m : Talk Out} {t₀ t : Tape} (q : Moves rs m₀ t₀ m t) where
-  pub run_ended : {r : Out} → m ≡ end r → shown p t (stopped m Done) ≡ run_on p m₀ rs t₀
-  unfolding run_on
-  run_ended e =
-      let here : shown p t (stopped m Done) ≡ run_on p m rs t = rw e in
-      here ∙ run_moves p q
-
-  module _ {a : Action} {k : Reply → Talk Out} (e : m ≡ ask a k) where
-    pub run_full : length t.transcript - t.at < 3 → shown p t (stopped m NoRoom) ≡ run_on p m₀ rs t₀
-    unfolding run_on
-    run_full h =
-        let here : shown p t (stopped m NoRoom) ≡ run_on p m rs t = rw e (simp (lt-ltb _ _ h)) in
-        here ∙ run_moves p q
-
-    pub run_dry : 3 ≤ length t.transcript - t.at → length rs - t.used < uses a → shown p t (stopped m NoReply) ≡ run_on p m₀ rs t₀
-    unfolding run_on
-    run_dry h k' =
-        let here : shown p t (stopped m NoReply) ≡ run_on p m rs t = rw e (simp (le-ltb _ _ h, length-drop, lt-ltb _ _ k')) in
-        here ∙ run_moves p q
-
--- a run into the part of a transcript that starts at its write place
-
-set_shift : (p s : List ℕ) (i a : ℕ) → set (p ++ s) (length p + i) a ≡ p ++ set s i a
-set_shift [] s i a = simp zero-add
-set_shift (x ∷ p) s i a = rw (suc-add (length p) i) (ap (λ (l : List ℕ). x ∷ l) (set_shift p s i a))
-
-sets_shift : (p s : List ℕ) (i : ℕ) (ws : List ℕ) → sets (p ++ s) (length p + i) ws ≡ p ++ sets s i ws
-sets_shift p s i [] = refl
-sets_shift p s i (a ∷ ws) = rw (set_shift p s i a, ← add-suc (length p) i) (sets_shift p (set s i a) (suc i) ws)
-
-abbrev moved : List ℕ → Tape → Tape
-moved p t =
-    record {
-      actions = t.actions;
-      micros = t.micros;
-      transcript = p ++ t.transcript;
-      at = length p + t.at;
-      used = t.used;
-    }
-
-after_moved : (p : List ℕ) (t : Tape) (done : List Action) → after (moved p t) done ≡ moved p (after t done)
-after_moved p t [] = refl
-after_moved p t (a ∷ done) =
-    rw (sets_shift p t.transcript t.at (words a), add_assoc (length p) t.at 3) (after_moved p (on_tape t a) done)
-
-abbrev lifted : List ℕ → Shown → Shown
-lifted p s = record { stop = s.stop; port = s.port; talk = s.talk; tape = moved p s.tape }
-
-run_part : (c : Conv) (rs t : List ℕ) (at : ℕ) → at ≤ length t → run_into c rs t at 0 ≡ lifted (take at t) (run_into c rs (drop at t) 0 0)
-unfolding run_on
-run_part c rs t at h =
-    let room : length (drop at t) - 0 ≡ length t - at = simp length-drop (omega arith) in
-    let run : Run Out = run_talk c.talk rs (length t - at) in
-    rw (room, ← after_moved (take at t) (tape_of c (drop at t) 0 0) run.done, take-append-drop at t, length-take-le at t h, add-zero at)
 
 module _ (t : List ℕ) (at : ℕ) (h : at ≤ length t) where
   all : length (drop at t) ≤ length t - at
@@ -168,21 +59,3 @@ module _ (t : List ℕ) (at : ℕ) (h : at ≤ length t) where
   within_part n k =
       let k' : n ≤ length t - at = simp length-drop at (rw (take_all (length t - at) (drop at t) all) at k) in
       omega arith
-
--- the checks of a run
-
-module _ (c : Conv) (rs t : List ℕ) (at : ℕ) where
-  pub all_ended : {r : Out} → c.talk ≡ end r → refused_run AfterEnd c t at ≡ run_all c rs t at
-  all_ended e = ap (λ (x : Talk Out). run_from x c rs t at) (sym e)
-
-  module _ {a : Action} {k : Reply → Talk Out} (e : c.talk ≡ ask a k) where
-    pub all_bad : bad rs ≡ true → refused_run BadReply c t at ≡ run_all c rs t at
-    all_bad b = rw (e, b)
-
-    pub all_run : bad rs ≡ false → run_into c rs t at 0 ≡ run_all c rs t at
-    all_run b = rw (e, b)
-
-    pub all_full : bad rs ≡ false → length t < at → refused_run NoRoom c t at ≡ run_all c rs t at
-    all_full b h =
-        let room : length t - at < 3 = omega arith in
-        run_full c.port stays e room ∙ all_run b

@@ -2,20 +2,22 @@
 ghost use Rattle.std.specs.Prelude.{◌≡◌, ◌≤◌, [], ◌∷◌, length, take, Err};
 ghost use Rattle.hardware.specs.Talk.{end};
 ghost use Rattle.drive.specs.Act.{reply_for};
-ghost use Rattle.conversation.specs.Conversation.{conv_of, gone, opening, padded, begun, number, refuses, stepped_of, step_talk, given, handed_back, left_by, left_of, own_of};
+ghost use Rattle.calls.specs.Conversation.{gone, opening, begun, refuses, step_talk, given, handed_back, left_by, left_of, own_of};
+ghost use Rattle.conversation.specs.Conversation.{conv_of, padded, stepped_of};
 ghost use Rattle.start.specs.First.{told_first};
 ghost use Rattle.started.specs.Operation.{resume_op, told};
 
 use access::access::Ended;
+use after::After;
 use answers::Value;
+use arguments::{Left, Watch};
+use calls::Stop;
 use drive::{reply_of, uses_of, waited_of};
 use hardware::{Action, Error, Port, Reply, Step};
-use operations::After;
+use operations::Operation;
 use run_access::lent::Lent;
-use start::operation::Operation;
 use start::start::{First, start};
 use started::operation::Op;
-use watch::store::{Left, Watch};
 
 // The whole state of a conversation.
 #[derive(Clone, Copy)]
@@ -28,36 +30,11 @@ pub struct Conversation {
     pub micros: u64,
 }
 
-// How a step or a run stopped. Done: a step's action is done, or a run has come to the conversation's end.
-#[derive(Clone, Copy)]
-pub enum Stop {
-    Done,
-    AfterEnd,
-    BadReply,
-    NoReply,
-    NoRoom,
-}
-
 // What a step answers. Where it stopped with a number, the conversation is the one that was handed in.
 #[derive(Clone, Copy)]
 pub struct Stepped {
     pub stop: Stop,
     pub to: Conversation,
-}
-
-impl Stop {
-    // Document 01's number, 0 for Done.
-    pub fn number(self) -> u32
-        ensures { number self ≡ result }
-    {
-        match self {
-            Stop::Done => 0,
-            Stop::AfterEnd => 24,
-            Stop::BadReply => 25,
-            Stop::NoReply => 26,
-            Stop::NoRoom => 27,
-        }
-    }
 }
 
 // The words of a block that is lent, then zeros.
@@ -158,7 +135,7 @@ impl Conversation {
     pub fn begin(port: Port, what: Operation, block: &[u32]) -> Conversation
         ensures { conv_of result ≡ begun port what block.now }
     {
-        match port.refusal(what.phy(), what.device(), block.len()) {
+        match what.refused(port, block) {
             Err(e) => Conversation::refused(port, e),
             Ok(()) => {
                 let mut words = copied(block);
@@ -192,7 +169,7 @@ impl Conversation {
     }
 
     // One action is answered with a reply's two words.
-    #[tactic(auto, using(crate::proofs::Laws::at_place, crate::proofs::Laws::step_refused, crate::proofs::Laws::step_done))]
+    #[tactic(auto, using(crate::proofs::Laws::at_place, calls::proofs::Laws::step_refused, calls::proofs::Laws::step_done))]
     pub fn step(self, kind: u32, value: u32) -> Stepped
         ensures { stepped_of result ≡ step_talk (conv_of self) kind value }
     {

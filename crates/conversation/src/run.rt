@@ -3,11 +3,13 @@ ghost use Rattle.std.specs.Prelude.{◌≡◌, ◌+◌, ◌≤◌, length};
 ghost use Rattle.drive.specs.Moves.{tape, Moves};
 ghost use Rattle.started.specs.Operation.{told};
 ghost use Rattle.conversation.specs.Conversation.{conv_of};
-ghost use Rattle.conversation.specs.Run.{shown_of, reached_of, run_on, run_into, bad, run_all};
+ghost use Rattle.calls.specs.Run.{run_on, run_into, bad, run_all};
+ghost use Rattle.conversation.specs.Run.{shown_of, reached_of};
 
-use crate::conversation::{Conversation, Stop};
+use crate::conversation::Conversation;
 use access::access::Ended;
 use answers::Value;
+use calls::Stop;
 use drive::{Host, act};
 use hardware::{Action, Port, Step};
 use run_access::lent;
@@ -50,7 +52,7 @@ fn ahead(
 }
 
 // The run's loop: as far as accesses go by themselves, then one action, from where the last turn came.
-#[tactic(auto, using(drive::specs::Moves::stays, drive::proofs::Laws::act_short, drive::proofs::Laws::act_done, drive::proofs::Laws::then, drive::proofs::Laws::moves_less, drive::proofs::Laws::moves_within, crate::proofs::Laws::run_ended, crate::proofs::Laws::run_full, crate::proofs::Laws::run_dry))]
+#[tactic(auto, using(drive::specs::Moves::stays, drive::proofs::Laws::act_short, drive::proofs::Laws::act_done, drive::proofs::Laws::then, drive::proofs::Laws::moves_less, drive::proofs::Laws::moves_within, calls::proofs::Laws::run_ended, calls::proofs::Laws::run_full, calls::proofs::Laws::run_dry))]
 fn run_from(
     from: Step<Action, Op, Ended<Value>>,
     port: Port,
@@ -119,7 +121,7 @@ fn run_on(c: Conversation, replies: &[u32], t: &mut [u32]) -> Ran
 }
 
 // An odd length, or a kind above 1.
-#[tactic(auto, using(crate::proofs::Laws::bad_short, crate::proofs::Laws::bad_first, crate::proofs::Laws::bad_then))]
+#[tactic(auto, using(calls::proofs::Laws::bad_short, calls::proofs::Laws::bad_first, calls::proofs::Laws::bad_then))]
 fn is_bad(replies: &[u32]) -> bool
     ensures { bad replies.now ≡ result }
 {
@@ -132,7 +134,7 @@ fn is_bad(replies: &[u32]) -> bool
 }
 
 // Runs the conversation over the replies, writing each action's three words from place `at` of the transcript on.
-#[tactic(auto, using(crate::proofs::Laws::at_place, crate::proofs::Laws::within_part, crate::proofs::Laws::all_ended, crate::proofs::Laws::all_bad, crate::proofs::Laws::all_full))]
+#[tactic(auto, using(crate::proofs::Laws::at_place, crate::proofs::Laws::within_part, calls::proofs::Laws::all_ended, calls::proofs::Laws::all_bad, calls::proofs::Laws::all_full))]
 pub fn run(c: Conversation, replies: &[u32], transcript: &mut [u32], at: usize) -> Ran
     ensures { shown_of result transcript.new ≡ run_all (conv_of c) replies.now transcript.old at }
 {

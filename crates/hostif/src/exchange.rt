@@ -6,7 +6,7 @@ ghost use Rattle.hostif.specs.Exchange.{resume_exchange, told_exchange, exchange
 
 use crate::post::Post;
 use hardware::{Action, Error, Reply, Step, raw};
-use words::hostif::{FLEX_MNG, fits, flex_mng, reply_words};
+use words::host_words::{FLEX_MNG, fits, flex_mng, reply_words};
 
 // Its answer is the reply's status.
 #[derive(Clone, Copy)]

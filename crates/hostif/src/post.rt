@@ -4,7 +4,7 @@ ghost use Rattle.reference.specs.Hostif.{post, posted, hicr_times, write_words};
 ghost use Rattle.hostif.specs.Post.{resume_post, told_post, post_fwsts, post_hicr, post_polled};
 
 use hardware::{Action, Error, Reply, Step, checked, done};
-use words::hostif::flex_mng;
+use words::host_words::flex_mng;
 
 // Its answer is the last HICR.
 #[derive(Clone, Copy)]

@@ -6,16 +6,12 @@ use Rattle.std.specs.Prelude.{ℕ, List}
 use Rattle.hardware.specs.declared.Port.{Port}
 use Rattle.words.specs.Kr.{krm}
 use Rattle.reference.specs.Mdio.{changed}
-use Rattle.reference.specs.X552.{but, kr_modify, kr_modified}
+use Rattle.reference.specs.X552.{kr_modify, kr_modified}
 use Rattle.access.specs.Access.{job_talk}
 use Rattle.access.specs.declared.access.Job.{Job}
-use Rattle.kr.specs.declared.modify.Change.{Change}
+use Rattle.arguments.specs.declared.Change.{Change}
 use Rattle.kr.specs.declared.modify.KrModify.{KrModify}
 use Rattle.kr.specs.declared.modify.KrModify.TheVariants as modify
-
--- the bits to clear, and those to set
-abbrev pub change : ℕ → ℕ → ℕ → Change
-change port0 clear set = record { port0 = port0; keep = but clear; set = set }
 
 -- the Rust's function, of these arguments
 abbrev pub modify_of : Port → Change → Call ℕ

@@ -6,8 +6,9 @@ use Rattle.hardware.specs.Talk.{Call, Res, ◌>>=◌, ◌>>◌, return}
 use Rattle.std.specs.Prelude.{ℕ, List, None, Option, Some}
 use Rattle.hardware.specs.declared.Port.{Port}
 use Rattle.reference.specs.X552.{kr_autoneg_set, kr_autoneg_lane, ixfi_set, restart_lane, restarted}
-use Rattle.kr.specs.Modify.{change, modify_of, resume_modify}
-use Rattle.kr.specs.declared.modify.Change.{Change}
+use Rattle.arguments.specs.Change.{change}
+use Rattle.kr.specs.Modify.{modify_of, resume_modify}
+use Rattle.arguments.specs.declared.Change.{Change}
 use Rattle.kr.specs.declared.sequence.KrPlace.{KrPlace}
 use Rattle.kr.specs.declared.sequence.KrPlace.TheVariants as place
 use Rattle.kr.specs.declared.sequence.Sequence.{Sequence}

@@ -1,19 +1,11 @@
 // x552.rs's `kr_modify`: a read and a write, each an access of its own.
 ghost use Rattle.std.specs.Prelude.{ℕ, List, ◌≡◌};
-ghost use Rattle.kr.specs.Modify.{change, modify_of, begun_modify, resume_modify, told_modify};
+ghost use Rattle.kr.specs.Modify.{modify_of, begun_modify, resume_modify, told_modify};
 
 use access::access::Job;
+use arguments::Change;
 use hardware::{Error, Port, Step};
-use words::kr::krm;
-
-// kr_modify's arguments. The bits to keep and to set stand for the Rust's closure.
-#[derive(Clone, Copy)]
-pub struct Change {
-    // the register's address on lan 0
-    pub port0: u32,
-    pub keep: u32,
-    pub set: u32,
-}
+use words::kr_address::krm;
 
 // It ends with the value written.
 #[derive(Clone, Copy)]
@@ -21,34 +13,6 @@ pub enum KrModify {
     Reading,
     // the value written
     Writing(u32),
-}
-
-impl Change {
-    pub const LINK_CTRL_1: u32 = 0x420c;
-
-    // PMD_FLX_MASK_ST20, X553 only
-    pub const FLX: u32 = 0x5054;
-
-    pub const SGMII_CTRL: u32 = 0x42a0;
-
-    pub const RX_TRN_LINKUP_CTRL: u32 = 0x4b00;
-
-    pub const DSP_TXFFE_STATE_4: u32 = 0x4634;
-
-    pub const DSP_TXFFE_STATE_5: u32 = 0x4638;
-
-    pub const TX_COEFF_CTRL_1: u32 = 0x5520;
-
-    // The bits to clear, and those to set.
-    pub fn of(port0: u32, clear: u32, set: u32) -> Change
-        ensures { change port0 clear set ≡ result }
-    {
-        Change {
-            port0,
-            keep: !clear,
-            set,
-        }
-    }
 }
 
 impl KrModify {

@@ -5,7 +5,7 @@ ghost use Rattle.mdio.specs.Cycle.{resume_cycle, told_cycle};
 
 use drive::machine::{Machine, Runs};
 use hardware::{Action, Error, Reply, Step, checked, done};
-use words::mdio::Command;
+use words::msca::Command;
 
 // The number is how many reads are left after this one.
 #[derive(Clone, Copy)]

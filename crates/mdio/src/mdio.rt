@@ -8,7 +8,7 @@ use crate::cycle::Cycle;
 use drive::Host;
 use drive::machine::{Machine, Runs, run, single};
 use hardware::{Action, Error, Reply, Step, done, raw};
-use words::mdio::Command;
+use words::msca::Command;
 
 // What is asked of the PHY, at mdio.rs's `address`.
 #[derive(Clone, Copy)]

@@ -12,7 +12,8 @@ use lib.Bits.{and_le_l}
 use Rattle.hardware.specs.Bits.{bit}
 use Rattle.hardware.specs.declared.Family.{Family}
 use Rattle.hardware.proofs.Bits.{bit-bit_and, bit_zero}
-use Rattle.reference.specs.Operations.{Out, operation_with}
+use Rattle.reference.specs.Out.{Out}
+use Rattle.operations.specs.Operations.{operation_with}
 use Rattle.mixing.specs.Heeded.{ended_well, Heeded}
 use Rattle.mixing.specs.Mixing.{table, Right, Mixed, starting, Mixing, port_at, takes, begun_if, ops_of, Demand3}
 use Rattle.mixing.specs.Model.{Side, lan0, lan1, Owner, nobody, of_port, Chip, fw_bits, free}
@@ -92,11 +93,11 @@ fit f t false m s g e w W r = let z : true ≡ false = cc in absurd (true≢fals
 pub demand_3 : (pause : ℕ) (f : Family) → Demand3 pause f
 demand_3 pause f =
     record {
-      parts = λ p q h. (sound pause (port_at f p q.device) q.op h).made;
+      parts = λ p q h. (sound pause (port_at f p q.device) q.what q.block h).made;
       mixes = λ made. mixing f (ops_of pause f made)
           (λ p q. let port = port_at f p q.device in
-          fit f (operation_with pause port q.op) (takes port q.op) (made p q) (sound pause port q.op));
+          fit f (operation_with pause port q.what q.block) (takes port q.what q.block) (made p q) (sound pause port q.what q.block));
     }
 
 pub heeded : Heeded
-heeded pause port op h = (sound pause port op h).heeds
+heeded pause port what ws h = (sound pause port what ws h).heeds

@@ -1,45 +1,22 @@
 -- The code's conversations stand where the model's ports stand
 use Rattle.std.specs.Prelude.{Err, Ok, Option, None, Some}
 use Rattle.hardware.specs.Talk.{Talk, Res, end, ask, and_then, pick, Reply}
-use Prim.Native.Nat.{ℕ, ◌≤◌}
-use native.Mathlib.Omega.{arith}
-use native.Mathlib.Nat.{le_trans}
+use Prim.Native.Nat.{ℕ}
 use mathlib.Core.Path.{◌≡◌, refl, sym, ap, ◌∙◌, subst}
 use mathlib.Core.Bool.{Bool, true, false, ◌&&◌}
 use mathlib.Core.List.{List, [], ◌∷◌}
-use lib.ListN.{length}
-use Rattle.hardware.specs.Refusal.{refusal}
 use Rattle.hardware.specs.declared.Action.{Action}
 use Rattle.hardware.specs.declared.Action.TheVariants as action
 use Rattle.hardware.specs.declared.Family.{Family}
 use Rattle.hardware.specs.declared.Port.{Port}
-use Rattle.hardware.proofs.Refusal as refused
-use Rattle.reference.specs.Bounds.{block_of}
-use Rattle.reference.specs.Operations.{Out, operation}
-use Rattle.conversation.specs.Conversation.{Conv, opening, started, step_on, step_talk}
-use Rattle.start.specs.Operation.{phy_of, device_of, op_of}
-use Rattle.start.specs.declared.operation.Operation.{Operation}
-use Rattle.start.specs.declared.operation.Operation.TheVariants as operationv
-use Rattle.mixing.specs.Conversations.{
-  Asked,
-  Real,
-  kind_of,
-  steps,
-  starts,
-  step_real,
-  run_real,
-  fresh,
-  takes,
-  Parts,
-  ops_of,
-  Stands,
-  Tied,
-  OfTheCode,
-}
-use Rattle.mixing.specs.Heeded.{ended_well}
-use Rattle.mixing.specs.Mixing.{port_at, begun_if, starting}
+use Rattle.reference.specs.Out.{Out}
+use Rattle.operations.specs.Addresses.{refused}
+use Rattle.operations.specs.Operations.{operation}
+use Rattle.calls.specs.Conversation.{Conv, opening, started, step_on, step_talk}
+use Rattle.mixing.specs.Conversations.{Real, kind_of, steps, starts, step_real, run_real, fresh, Stands, Tied, OfTheCode}
+use Rattle.mixing.specs.Mixing.{Asked, Parts, begun_if, ops_of, port_at, starting}
 use Rattle.mixing.specs.Model.{Side, Chip, World, do_action, do_firmware, free}
-use Rattle.mixing.specs.Operations.{mixable, addresses}
+use Rattle.mixing.specs.Operations.{mixable}
 use Rattle.mixing.specs.System.{
   Access,
   Given,
@@ -75,11 +52,8 @@ use Rattle.mixing.specs.System.{
   step,
   run,
 }
-use Rattle.mixing.proofs.Claim.{fit, mixing}
-use Rattle.mixing.proofs.Lock.{and_left}
-use Rattle.mixing.proofs.Operations.{and_right, is_ok_lem, sound_op}
+use Rattle.mixing.proofs.Claim.{demand_3}
 use Rattle.mixing.proofs.Mix.{change₁, change₂}
-use Rattle.mixing.proofs.Sound.{Sound}
 
 -- ---- what a port says after it has settled is what it was to settle
 
@@ -179,74 +153,37 @@ module _ (f : Family) (p : Side) (s : Sys f) (well : Bool) where
   in_stays x seen a c k m None = refl
   in_stays x seen a c k m (Some g) = refl
 
-module _ (f : Family) (made : Parts f) where
+module _ (f : Family) (made : Parts 10 f) where
   begins_tied : (p : Side) (a : Asked) (s : Sys f) (r : Real) → Tied s r → (q : State f) → s.ports p ≡ q → Stands q (r.convs p).talk
-      → Tied (begins f p s (ops_of f made p a) q) (starts f p a r (r.convs p).talk)
+      → Tied (begins f p s (ops_of 10 f made p a) q) (starts f p a r (r.convs p).talk)
   begins_tied p a s r t (idle well) e h =
       let port = port_at f p a.device in
       subst (Tied _) (sym (ap (starts f p a r) h.1))
-      (begun_tied f p s r t port (operation port (op_of a.what a.block)) well (mixable (op_of a.what a.block))
-      (refusal port (phy_of a.what) (device_of a.what) (length a.block)) (made p a) e)
+      (begun_tied f p s r t port (operation port a.what a.block) well (mixable a.what)
+      (refused port a.what a.block) (made p a) e)
   begins_tied p a s r t (out well b c o m) e h =
-      subst (Tied _) (sym (ap (starts f p a r) h)) (subst (λ z. Tied z r) (sym (out_stays f p s well b c o m (ops_of f made p a))) t)
+      subst (Tied _) (sym (ap (starts f p a r) h)) (subst (λ z. Tied z r) (sym (out_stays f p s well b c o m (ops_of 10 f made p a))) t)
   begins_tied p a s r t (inside well x seen b c k m) e h =
-      subst (Tied _) (sym (ap (starts f p a r) h)) (subst (λ z. Tied z r) (sym (in_stays f p s well x seen b c k m (ops_of f made p a))) t)
+      subst (Tied _) (sym (ap (starts f p a r) h)) (subst (λ z. Tied z r) (sym (in_stays f p s well x seen b c k m (ops_of 10 f made p a))) t)
 
-  step_tied : (e : Event Asked) (s : Sys f) (r : Real) → Tied s r → Tied (step f (ops_of f made) e s) (step_real f e r)
+  step_tied : (e : Event Asked) (s : Sys f) (r : Real) → Tied s r → Tied (step f (ops_of 10 f made) e s) (step_real f e r)
   unfolding step
   step_tied (begin p a) s r t = begins_tied p a s r t (s.ports p) refl (t.stands p)
   step_tied (act p w) s r t = acts_tied f p w s r t (s.ports p) (t.stands p)
   step_tied (firm i) s r t = record { chip = ap (do_firmware i) t.chip; stands = t.stands }
 
-  run_tied : (es : List (Event Asked)) (s : Sys f) (r : Real) → Tied s r → Tied (run f (ops_of f made) es s) (run_real f es r)
+  run_tied : (es : List (Event Asked)) (s : Sys f) (r : Real) → Tied s r → Tied (run f (ops_of 10 f made) es s) (run_real f es r)
   unfolding run run_real
   run_tied [] s r t = t
-  run_tied (e ∷ es) s r t = run_tied es (step f (ops_of f made) e s) (step_real f e r) (step_tied e s r t)
+  run_tied (e ∷ es) s r t = run_tied es (step f (ops_of 10 f made) e s) (step_real f e r) (step_tied e s r t)
 
 -- ---- what the code begins keeps the rules
 
 -- it has the addresses that `begin` refuses it by, and no more words than `begin` was lent
-judged : (what : Operation) (ws : List ℕ) → (addresses (op_of what ws) ≡ (phy_of what, device_of what)) × (block_of (op_of what ws) ≤ length ws)
-unfolding phy_of device_of
-judged operationv.Veto ws = (refl, omega arith)
-judged operationv.Link ws = (refl, omega arith)
-judged (operationv.Acquire mask) ws = (refl, omega arith)
-judged (operationv.Release mask) ws = (refl, omega arith)
-judged operationv.Command ws = (refl, omega arith)
-judged (operationv.Token take) ws = (refl, omega arith)
-judged (operationv.PhyActivity asked) ws = (refl, omega arith)
-judged (operationv.ReadReg phy device register) ws = (refl, omega arith)
-judged (operationv.WriteReg phy device register value) ws = (refl, omega arith)
-judged (operationv.Modify at) ws = (refl, omega arith)
-judged (operationv.Probe phy) ws = (refl, omega arith)
-judged operationv.Scan ws = (refl, omega arith)
-judged (operationv.Reset phy x557) ws = (refl, omega arith)
-judged (operationv.Abilities phy) ws = (refl, omega arith)
-judged (operationv.Advertise asked) ws = (refl, omega arith)
-judged (operationv.AnLink phy) ws = (refl, omega arith)
-judged (operationv.KrRead address) ws = (refl, omega arith)
-judged (operationv.KrWrite address value) ws = (refl, omega arith)
-judged (operationv.KrModify c) ws = (refl, omega arith)
-judged operationv.RestartAn ws = (refl, omega arith)
-judged (operationv.KrAutoneg kr kx) ws = (refl, omega arith)
-judged (operationv.NvmWord word) ws = (refl, omega arith)
-judged operationv.AfterReset ws = (refl, omega arith)
-judged (operationv.Bringup veto) ws = (refl, omega arith)
-judged (operationv.Poll w) ws = (refl, omega arith)
-
-code_sound : (port : Port) (q : Asked) → takes port q ≡ true → Sound port.family ended_well (operation port (op_of q.what q.block))
-code_sound port q h =
-    let verdict : Res (Unit {0}) = refusal port (phy_of q.what) (device_of q.what) (length q.block) in
-    let small : length q.block ≤ 16 = (refused.taken port (phy_of q.what) (device_of q.what) (length q.block) (is_ok_lem verdict (and_right (mixable (op_of q.what q.block)) (is_ok verdict) h))).words in
-    sound_op 10 port (op_of q.what q.block) (and_left (mixable (op_of q.what q.block)) (is_ok verdict) h) (le_trans (judged q.what q.block).1 small)
-
 pub demand_3_of_the_code : (f : Family) → OfTheCode f
 demand_3_of_the_code f =
     record {
-      parts = λ p q h. (code_sound (port_at f p q.device) q h).made;
-      mixes = λ made. mixing f (ops_of f made)
-          (λ p q. let port = port_at f p q.device in
-          fit f (operation port (op_of q.what q.block)) (takes port q) (made p q) (code_sound port q));
+      mixes = demand_3 10 f;
       tied = λ made before bits address regs es. run_tied f made es (starting (free bits address regs)) (fresh f before (free bits address regs))
           (record { chip = refl; stands = λ p. (before p, refl) });
     }

@@ -14,7 +14,9 @@ use Rattle.words.specs.Semaphore.{software, firmware, flash, bits}
 use Rattle.answers.specs.declared.Value.{Value}
 use Rattle.answers.specs.declared.Value.TheVariants as valuev
 use Rattle.reference.specs.Acquire.{acquire, release, release_rest}
-use Rattle.reference.specs.Operations.{Op, Acquire, Command, KrRead, ReadReg}
+use Rattle.operations.specs.Addresses.{addresses}
+use Rattle.operations.specs.declared.Operation.{Operation}
+use Rattle.operations.specs.declared.Operation.TheVariants.{Acquire, Command, KrRead, ReadReg}
 use Rattle.reference.specs.Sync.{mux, acquire_bits, release_bits}
 use Rattle.reference.specs.X552.{iosf_idle, kr_read}
 use Rattle.mixing.specs.Alone.{calm}
@@ -97,16 +99,16 @@ module _ (regs : ℕ → ℕ) where
   stopped = refl
 
 -- what is begun, and what is refused: a fiber port, a PHY address above 31, a host block of 17 words, a bare acquire
-abbrev asked : ℕ → Op → Bool
-asked device op = takes (port_at X552 lan0 device) op
+abbrev asked : ℕ → Operation → List ℕ → Bool
+asked device what ws = takes (port_at X552 lan0 device) what ws
 
 begun_or_not :
-    (asked 0x15ad (KrRead 0x12345678) ≡ true)
-    × (asked 0x15ac (KrRead 5) ≡ false)
-    × (asked 0x15ad (ReadReg 31 31 0) ≡ true)
-    × (asked 0x15ad (ReadReg 32 0 0) ≡ false)
-    × (asked 0x15ad (Command (replicate 16 0)) ≡ true)
-    × (asked 0x15ad (Command (replicate 17 0)) ≡ false)
-    × (asked 0x15ad (Acquire 6) ≡ false)
-unfolding refusal
+    (asked 0x15ad (KrRead 0x12345678) [] ≡ true)
+    × (asked 0x15ac (KrRead 5) [] ≡ false)
+    × (asked 0x15ad (ReadReg 31 31 0) [] ≡ true)
+    × (asked 0x15ad (ReadReg 32 0 0) [] ≡ false)
+    × (asked 0x15ad Command (replicate 16 0) ≡ true)
+    × (asked 0x15ad Command (replicate 17 0) ≡ false)
+    × (asked 0x15ad (Acquire 6) [] ≡ false)
+unfolding refusal addresses
 begun_or_not = (refl, refl, refl, refl, refl, refl, refl)

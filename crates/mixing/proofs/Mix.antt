@@ -7,7 +7,7 @@ use mathlib.Core.List.{List, [], ◌∷◌}
 use Rattle.std.specs.Prelude.{Option, None, Some}
 use Rattle.hardware.specs.declared.Action.{Action}
 use Rattle.hardware.specs.declared.Family.{Family}
-use Rattle.reference.specs.Operations.{Out}
+use Rattle.reference.specs.Out.{Out}
 use Rattle.mixing.specs.Mixing.{table, Right, RightGave}
 use Rattle.mixing.specs.Model.{Side, lan0, lan1, Chip, World}
 use Rattle.mixing.specs.System.{

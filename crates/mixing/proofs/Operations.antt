@@ -4,53 +4,23 @@ use Rattle.hardware.specs.Talk.{Call, Res, is_clear}
 use Prim.Native.Nat.{ℕ, ◌≤◌}
 use mathlib.Core.Path.{◌≡◌, refl, sym}
 use mathlib.Core.Bool.{Bool, true, false, ◌&&◌, true≢false}
-use mathlib.Core.List.{[]}
-use Rattle.hardware.specs.Refusal.{refusal}
+use mathlib.Core.List.{List, []}
+use lib.ListN.{length}
 use Rattle.hardware.specs.declared.Family.{Family}
 use Rattle.hardware.specs.declared.Family.TheVariants as familyv
 use Rattle.hardware.specs.declared.Port.{Port}
-use Rattle.hardware.proofs.Refusal as refused
+use Rattle.hardware.proofs.Refusal.{taken}
 use Rattle.answers.specs.declared.Value.{Value}
-use Rattle.reference.specs.Bounds.{block_of}
 use Rattle.reference.specs.Hardware as hardware
-use Rattle.reference.specs.Operations.{
-  Op,
-  Veto,
-  Link,
-  Acquire,
-  Release,
-  Command,
-  Token,
-  PhyActivity,
-  ReadReg,
-  WriteReg,
-  Modify,
-  Probe,
-  Scan,
-  Reset,
-  Abilities,
-  Advertise,
-  AnLink,
-  KrRead,
-  KrWrite,
-  KrModify,
-  RestartAn,
-  KrAutoneg,
-  NvmWord,
-  AfterReset,
-  Bringup,
-  Poll,
-  answer,
-  after_reset,
-  bringup552,
-  bringup553,
-  bringup_of,
-  bringup,
-  operation_with,
-}
+use Rattle.reference.specs.Bringup.{after_reset, bringup552, bringup553, bringup_of, bringup}
+use Rattle.reference.specs.Out.{answer}
+use Rattle.operations.specs.Addresses.{addresses, refused}
+use Rattle.operations.specs.Operations.{operation_with}
+use Rattle.operations.specs.declared.Operation.{Operation}
+use Rattle.operations.specs.declared.Operation.TheVariants as operationv
 use Rattle.mixing.specs.Heeded.{ended_well}
 use Rattle.mixing.specs.Mixing.{takes}
-use Rattle.mixing.specs.Operations.{mixable, addresses}
+use Rattle.mixing.specs.Operations.{mixable}
 use Rattle.mixing.specs.System.{is_ok}
 use Rattle.mixing.proofs.Hostif.{s_command, s_token, s_activity}
 use Rattle.mixing.proofs.Kr.{reads_kr, writes_kr}
@@ -82,32 +52,33 @@ module _ (pause : ℕ) (port : Port) where
   unfolding bringup
   s_bringup veto = s_bringup_of veto port.family
 
-  pub sound_op : (op : Op) → mixable op ≡ true → block_of op ≤ 16 → Sound port.family ended_well (operation_with pause port op)
-  sound_op Veto m h = answers _ (bind (s_read (far 0x42d0 tt tt port.family)) (λ mmngc. ends))
-  sound_op Link m h = answers _ (bind (s_read (far 0x42a4 tt tt port.family)) s_linked)
-  sound_op (Acquire mask) m h = absurd (true≢false (sym m))
-  sound_op (Release mask) m h = absurd (true≢false (sym m))
-  sound_op (Command block) m h = bind_block (s_command port block h) (λ status b. ends)
-  sound_op (Token take) m h = answers _ (s_token port take)
-  sound_op (PhyActivity activity d0 d1 d2 d3) m h = answers _ (s_activity port activity d0 d1 d2 d3)
-  sound_op (ReadReg phy dev reg) m h = answers _ (s_read_reg port phy dev reg)
-  sound_op (WriteReg phy dev reg value) m h = answers _ (s_write_reg port phy dev reg value)
-  sound_op (Modify phy dev reg keep set) m h = answers _ (s_modify port phy dev reg keep set)
-  sound_op (Probe phy) m h = answers _ (s_probe port phy)
-  sound_op Scan m h = answers _ (s_scan port)
-  sound_op (Reset phy x557) m h = answers _ (s_reset port phy x557)
-  sound_op (Abilities phy) m h = answers _ (s_abilities port phy)
-  sound_op (Advertise phy s nbase veto) m h = answers _ (s_advertise port phy s nbase veto)
-  sound_op (AnLink phy) m h = answers _ (s_an_link port phy)
-  sound_op (KrRead address) m h = answers _ (reads_kr pause port address)
-  sound_op (KrWrite address value) m h = answers _ (writes_kr pause port address value)
-  sound_op (KrModify port0 keep set) m h = answers _ (s_kr_modify pause port port0 keep set)
-  sound_op RestartAn m h = answers _ (s_restart pause port)
-  sound_op (KrAutoneg kr kx) m h = answers _ (s_autoneg pause port kr kx)
-  sound_op (NvmWord word) m h = answers _ (s_nvm port word)
-  sound_op AfterReset m h = answers _ (s_after_reset port.family)
-  sound_op (Bringup veto) m h = keeps [] (s_bringup veto)
-  sound_op (Poll phy internal forced reforced) m h = answers _ (s_poll pause port phy internal forced reforced)
+  sound_op : (what : Operation) (ws : List ℕ) → mixable what ≡ true → length ws ≤ 16
+      → Sound port.family ended_well (operation_with pause port what ws)
+  sound_op operationv.Veto ws m h = answers _ (bind (s_read (far 0x42d0 tt tt port.family)) (λ mmngc. ends))
+  sound_op operationv.Link ws m h = answers _ (bind (s_read (far 0x42a4 tt tt port.family)) s_linked)
+  sound_op (operationv.Acquire mask) ws m h = absurd (true≢false (sym m))
+  sound_op (operationv.Release mask) ws m h = absurd (true≢false (sym m))
+  sound_op operationv.Command ws m h = bind_block (s_command port ws h) (λ status b. ends)
+  sound_op (operationv.Token take) ws m h = answers _ (s_token port take)
+  sound_op (operationv.PhyActivity asked) ws m h = answers _ (s_activity port asked.activity asked.data.w0 asked.data.w1 asked.data.w2 asked.data.w3)
+  sound_op (operationv.ReadReg phy device register) ws m h = answers _ (s_read_reg port phy device register)
+  sound_op (operationv.WriteReg phy device register value) ws m h = answers _ (s_write_reg port phy device register value)
+  sound_op (operationv.Modify at) ws m h = answers _ (s_modify port at.phy at.device at.register at.keep at.set)
+  sound_op (operationv.Probe phy) ws m h = answers _ (s_probe port phy)
+  sound_op operationv.Scan ws m h = answers _ (s_scan port)
+  sound_op (operationv.Reset phy x557) ws m h = answers _ (s_reset port phy x557)
+  sound_op (operationv.Abilities phy) ws m h = answers _ (s_abilities port phy)
+  sound_op (operationv.Advertise asked) ws m h = answers _ (s_advertise port asked.phy asked.speeds asked.nbase asked.veto)
+  sound_op (operationv.AnLink phy) ws m h = answers _ (s_an_link port phy)
+  sound_op (operationv.KrRead address) ws m h = answers _ (reads_kr pause port address)
+  sound_op (operationv.KrWrite address value) ws m h = answers _ (writes_kr pause port address value)
+  sound_op (operationv.KrModify c) ws m h = answers _ (s_kr_modify pause port c.port0 c.keep c.set)
+  sound_op operationv.RestartAn ws m h = answers _ (s_restart pause port)
+  sound_op (operationv.KrAutoneg kr kx) ws m h = answers _ (s_autoneg pause port kr kx)
+  sound_op (operationv.NvmWord word) ws m h = answers _ (s_nvm port word)
+  sound_op operationv.AfterReset ws m h = answers _ (s_after_reset port.family)
+  sound_op (operationv.Bringup veto) ws m h = keeps [] (s_bringup veto)
+  sound_op (operationv.Poll w) ws m h = answers _ (s_poll pause port w.phy w.internal w.forced w.reforced)
 
 -- one that is not refused has a host block of at most 16 words
 pub is_ok_lem : (r : Res (Unit {0})) → is_ok r ≡ true → r ≡ Ok tt
@@ -118,8 +89,9 @@ pub and_right : (a b : Bool) → (a && b) ≡ true → b ≡ true
 and_right true b h = h
 and_right false b h = absurd (true≢false (sym h))
 
-pub sound : (pause : ℕ) (port : Port) (op : Op) → takes port op ≡ true → Sound port.family ended_well (operation_with pause port op)
-sound pause port op h =
-    let verdict : Res (Unit {0}) = refusal port (addresses op).0 (addresses op).1 (block_of op) in
-    sound_op pause port op (and_left (mixable op) (is_ok verdict) h)
-    (refused.taken port (addresses op).0 (addresses op).1 (block_of op) (is_ok_lem verdict (and_right (mixable op) (is_ok verdict) h))).words
+pub sound : (pause : ℕ) (port : Port) (what : Operation) (ws : List ℕ) → takes port what ws ≡ true
+    → Sound port.family ended_well (operation_with pause port what ws)
+sound pause port what ws h =
+    let verdict : Res (Unit {0}) = refused port what ws in
+    sound_op pause port what ws (and_left (mixable what) (is_ok verdict) h)
+    (taken port (addresses what).0 (addresses what).1 (length ws) (is_ok_lem verdict (and_right (mixable what) (is_ok verdict) h))).words

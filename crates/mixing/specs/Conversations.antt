@@ -1,23 +1,13 @@
 -- The code's conversations on the model's chip: begun as `begin` begins them, and moved as `step` moves them
 use Rattle.hardware.specs.Talk.{Talk, end, ask, and_then, pick, Reply}
-use Rattle.std.specs.Prelude.{ℕ, ◌≡◌, Bool, true, ◌&&◌, List, [], ◌∷◌, length, Err, Ok, Option}
-use Rattle.hardware.specs.Refusal.{refusal}
+use Rattle.std.specs.Prelude.{ℕ, ◌≡◌, List, [], ◌∷◌, Err, Ok}
 use Rattle.hardware.specs.declared.Family.{Family}
-use Rattle.hardware.specs.declared.Port.{Port}
-use Rattle.reference.specs.Operations.{Out, operation}
-use Rattle.conversation.specs.Conversation.{Conv, opening, begun, step_talk}
-use Rattle.start.specs.Operation.{phy_of, device_of, op_of}
-use Rattle.start.specs.declared.operation.Operation.{Operation}
-use Rattle.mixing.specs.Mixing.{Mixing, starting, port_at, begun_if}
+use Rattle.reference.specs.Out.{Out}
+use Rattle.calls.specs.Conversation.{Conv, opening, begun, step_talk}
+use Rattle.mixing.specs.Mixing.{Asked, Demand3, Parts, ops_of, port_at, starting}
 use Rattle.mixing.specs.Model.{Side, Chip, World, do_action, do_firmware, free}
 use Rattle.mixing.specs.Operations.{mixable}
-use Rattle.mixing.specs.System.{Made, is_ok, State, idle, out, inside, word, Sys, change, Begun, Event, begin, act, firm, run}
-
--- a call of `begin`, beside the port's lan: device id, operation with its arguments, host block
-pub record Asked : Type 0 where
-  pub device : ℕ
-  pub what : Operation
-  pub block : List ℕ
+use Rattle.mixing.specs.System.{State, idle, out, inside, word, Sys, change, Event, begin, act, firm, run}
 
 -- the chip, and each port's last conversation
 pub record Real : Type 0 where
@@ -39,7 +29,7 @@ steps f p w s (ask a k) =
 -- a begin, where none is running
 abbrev pub starts : Family → Side → Asked → Real → Talk Out → Real
 starts f p q s (end r) =
-    pick (mixable (op_of q.what q.block))
+    pick (mixable q.what)
     (record { chip = s.chip; convs = change p (begun (port_at f p q.device) q.what q.block) s.convs }) s
 starts f p q s (ask a k) = s
 
@@ -56,17 +46,6 @@ run_real f (e ∷ es) s = run_real f es (step_real f e s)
 abbrev pub fresh : Family → (Side → Out) → Chip → Real
 fresh f before c = record { chip = c; convs = λ p. opening (port_at f p 0) (end (before p)) }
 
--- ---- the same calls in the model
-
-abbrev pub takes : Port → Asked → Bool
-takes port q = mixable (op_of q.what q.block) && is_ok (refusal port (phy_of q.what) (device_of q.what) (length q.block))
-
-abbrev pub Parts : Family → Type 0
-Parts f = (p : Side) (q : Asked) → takes (port_at f p q.device) q ≡ true → Made f (operation (port_at f p q.device) (op_of q.what q.block))
-
-abbrev pub ops_of : (f : Family) → Parts f → Side → Asked → Option (Begun f)
-ops_of f made p q = begun_if f (operation (port_at f p q.device) (op_of q.what q.block)) (takes (port_at f p q.device) q) (made p q)
-
 -- a port of the model and a conversation say the same from here on
 abbrev pub Stands : {f : Family} → State f → Talk Out → Type 0
 Stands (idle well) t = (r : Out) × (t ≡ end r)
@@ -79,7 +58,6 @@ pub record Tied {f : Family} (s : Sys f) (r : Real) : Type 0 where
 
 -- demand 3 of the code: the model's calls are mixed, and after every list of events the code's chip and conversations are the model's
 pub record OfTheCode (f : Family) : Type 0 where
-  pub parts : Parts f
-  pub mixes : (made : Parts f) → Mixing f (ops_of f made)
-  pub tied : (made : Parts f) (before : Side → Out) (bits address : ℕ) (regs : ℕ → ℕ) (es : List (Event Asked))
-      → Tied (run f (ops_of f made) es (starting (free bits address regs))) (run_real f es (fresh f before (free bits address regs)))
+  pub mixes : Demand3 10 f
+  pub tied : (made : Parts 10 f) (before : Side → Out) (bits address : ℕ) (regs : ℕ → ℕ) (es : List (Event Asked))
+      → Tied (run f (ops_of 10 f made) es (starting (free bits address regs))) (run_real f es (fresh f before (free bits address regs)))

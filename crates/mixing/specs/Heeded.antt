@@ -1,12 +1,14 @@
 -- No error of acquire_bits or release_bits inside an operation is passed over: an answer that is no error means that the
 -- operation ended well in document 01's sense
 use Rattle.hardware.specs.Talk.{Talk, end, ask, and_then, Res, Call, Reply}
-use Rattle.std.specs.Prelude.{ℕ, ◌≡◌, Bool, true, false, Err, Ok}
+use Rattle.std.specs.Prelude.{ℕ, ◌≡◌, Bool, true, false, List, Err, Ok}
 use Rattle.hardware.specs.declared.Action.{Action}
 use Rattle.hardware.specs.declared.Error.{Error}
 use Rattle.hardware.specs.declared.Family.{Family}
 use Rattle.hardware.specs.declared.Port.{Port}
-use Rattle.reference.specs.Operations.{Op, Out, operation_with}
+use Rattle.reference.specs.Out.{Out}
+use Rattle.operations.specs.Operations.{operation_with}
+use Rattle.operations.specs.declared.Operation.{Operation}
 use Rattle.reference.specs.Sync.{acquire_bits, release_bits}
 use Rattle.mixing.specs.Mixing.{takes}
 use Rattle.mixing.specs.Model.{Kind, is_swsm, is_sync, is_ctrl, is_data, is_other, On}
@@ -44,4 +46,5 @@ abbrev pub ended_well : Out → Bool
 ended_well o = is_ok o.0
 
 abbrev pub Heeded : Type 0
-Heeded = (pause : ℕ) (port : Port) (op : Op) → takes port op ≡ true → Heeds port.family ended_well (operation_with pause port op)
+Heeded = (pause : ℕ) (port : Port) (what : Operation) (ws : List ℕ) → takes port what ws ≡ true
+    → Heeds port.family ended_well (operation_with pause port what ws)

@@ -1,13 +1,14 @@
 -- Demand 3: the KR table, and the statement
 use Rattle.hardware.specs.Talk.{Talk, Res}
 use Rattle.std.specs.Prelude.{ℕ, ◌≡◌, refl, Bool, true, false, ◌&&◌, List, [], ◌∷◌, Err, Ok, Option, None, Some}
-use Rattle.hardware.specs.Refusal.{refusal}
 use Rattle.hardware.specs.declared.Family.{Family}
 use Rattle.hardware.specs.declared.Port.{Port}
-use Rattle.reference.specs.Bounds.{block_of}
-use Rattle.reference.specs.Operations.{Op, Out, operation_with}
+use Rattle.reference.specs.Out.{Out}
+use Rattle.operations.specs.Addresses.{refused}
+use Rattle.operations.specs.Operations.{operation_with}
+use Rattle.operations.specs.declared.Operation.{Operation}
 use Rattle.mixing.specs.Model.{Side, lan0, lan1, of_port, put, free, Chip}
-use Rattle.mixing.specs.Operations.{mixable, addresses}
+use Rattle.mixing.specs.Operations.{mixable}
 use Rattle.mixing.specs.System.{Access, reads, writes, Given, Made, is_ok, idle, Entry, touched, gave, Sys, Begun, Event, run}
 
 -- a write puts its word at its address
@@ -56,10 +57,11 @@ Mixing {O} f ops = (bits address : ℕ) (regs : ℕ → ℕ) (es : List (Event O
 
 -- the 23 operations of document 01 that are mixed
 
--- a call: the port's device id, the operation and its arguments
+-- a call of `begin`, beside the port's lan: device id, operation with its arguments, host block
 pub record Asked : Type 0 where
   pub device : ℕ
-  pub op : Op
+  pub what : Operation
+  pub block : List ℕ
 
 abbrev pub number : Side → ℕ
 number lan0 = 0
@@ -69,8 +71,8 @@ abbrev pub port_at : Family → Side → ℕ → Port
 port_at f p device = record { family = f; device = device; lan = number p }
 
 -- an operation that is mixed, and is not turned away by 20 to 23
-abbrev pub takes : Port → Op → Bool
-takes port op = mixable op && is_ok (refusal port (addresses op).0 (addresses op).1 (block_of op))
+abbrev pub takes : Port → Operation → List ℕ → Bool
+takes port what ws = mixable what && is_ok (refused port what ws)
 
 abbrev pub begun_if : (f : Family) (t : Talk Out) (b : Bool) → (b ≡ true → Made f t) → Option (Begun f)
 begun_if f t true m = Some (record { talk = t; made = m refl })
@@ -78,11 +80,12 @@ begun_if f t false m = None
 
 -- every operation taken apart, `pause`: the sideband's wait
 abbrev pub Parts : ℕ → Family → Type 0
-Parts pause f = (p : Side) (q : Asked) → takes (port_at f p q.device) q.op ≡ true → Made f (operation_with pause (port_at f p q.device) q.op)
+Parts pause f = (p : Side) (q : Asked) → takes (port_at f p q.device) q.what q.block ≡ true
+    → Made f (operation_with pause (port_at f p q.device) q.what q.block)
 
 abbrev pub ops_of : (pause : ℕ) (f : Family) → Parts pause f → Side → Asked → Option (Begun f)
 ops_of pause f made p q =
-    begun_if f (operation_with pause (port_at f p q.device) q.op) (takes (port_at f p q.device) q.op) (made p q)
+    begun_if f (operation_with pause (port_at f p q.device) q.what q.block) (takes (port_at f p q.device) q.what q.block) (made p q)
 
 -- demand 3: the operations can be taken apart into accesses, and however this is done, every list of events is mixed
 pub record Demand3 (pause : ℕ) (f : Family) : Type 0 where

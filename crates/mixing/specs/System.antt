@@ -5,7 +5,7 @@ use Rattle.hardware.specs.declared.Action.{Action}
 use Rattle.hardware.specs.declared.Action.TheVariants as action
 use Rattle.hardware.specs.declared.Family.{Family}
 use Rattle.hardware.specs.declared.Port.{Port}
-use Rattle.reference.specs.Operations.{Out}
+use Rattle.reference.specs.Out.{Out}
 use Rattle.reference.specs.X552.{kr_read, kr_write}
 use Rattle.mixing.specs.Model.{
   Side,

@@ -1,3 +1,4 @@
-pub mod After
-pub mod Kr
-pub mod Mdio
+pub mod Operations
+pub mod Addresses
+pub mod Bounds
+pub mod Example

@@ -1,193 +1,82 @@
-// What an operation does between its accesses.
+// The operations: what can be begun, with which arguments. Which function of the Rust each is stands in specs/.
 #![tactic(auto)]
 
-pub mod kr_registers;
-pub mod registers;
+ghost use Rattle.std.specs.Prelude.{◌≡◌};
+ghost use Rattle.operations.specs.Addresses.{addresses, refused};
 
-ghost use Rattle.std.specs.Prelude.{ℕ, List, [], ◌≡◌, take};
-ghost use Rattle.hardware.specs.Block.{keep};
-ghost use Rattle.hardware.specs.Talk.{end};
-ghost use Rattle.hardware.specs.declared.Port.{Port};
-ghost use Rattle.answers.specs.declared.Value.TheVariants as value;
-ghost use Rattle.reference.specs.Operations.{answer, poll_value};
-ghost use Rattle.hostif.specs.Token.{token_got};
-ghost use Rattle.activity.specs.Activity.{told_activity};
-ghost use Rattle.bringup.specs.Bringup.{told_bringup};
-ghost use Rattle.watch.specs.Poll.{told_poll};
-ghost use Rattle.operations.specs.After.{after_abilities, after_command, after_link, after_nothing, after_veto, after_word, resume_after, told_after};
+use arguments::{Advertised, Asked, Change, Register, Watch};
+use hardware::{Error, Port};
 
-use crate::kr_registers::Kr;
-use crate::registers::Mdio;
-use access::access::{Ended, Job};
-use activity::{Activity, Asked};
-use answers::{Value, Words};
-use bringup::Bringup;
-use hardware::{Error, Managed, Port, Step};
-use hostif::token::Token;
-use phy::abilities::speeds_of;
-use watch::poll::{Poll, Polled};
-use watch::store::Watch;
-use words::link::Link;
-
-// What is left of an operation once its access has ended.
+// What the host asks for.
 #[derive(Clone, Copy)]
-pub enum After {
-    // acquire, release, write_reg, kr_write
-    Nothing,
-    // read_reg, kr_read, nvm_word
-    Word,
+pub enum Operation {
     Veto,
     Link,
-    Abilities,
-    // how many words
-    Command(u32),
+    // mask
+    Acquire(u32),
+    // mask
+    Release(u32),
+    // its words are the host block's
+    Command,
     // take
     Token(bool),
-    Activity(Asked, Activity),
-    Mdio(Mdio),
-    Kr(Kr),
+    PhyActivity(Asked),
+    // phy, device, register
+    ReadReg(u32, u32, u16),
+    // phy, device, register, value
+    WriteReg(u32, u32, u16, u16),
+    Modify(Register),
+    // phy
+    Probe(u32),
+    Scan,
+    // phy, whether it is an X557
+    Reset(u32, bool),
+    // phy
+    Abilities(u32),
+    Advertise(Advertised),
+    // phy
+    AnLink(u32),
+    // address
+    KrRead(u32),
+    // address, value
+    KrWrite(u32, u32),
+    KrModify(Change),
+    RestartAn,
+    // kr, kx
+    KrAutoneg(bool, bool),
+    // word
+    NvmWord(u16),
+    AfterReset,
     // veto
-    Bringup(bool, Bringup),
-    Poll(Watch, Poll),
+    Bringup(bool),
+    Poll(Watch),
 }
 
-impl After {
-    // An answer with no words of the block.
-    pub fn plain(answer: Result<Value, Error>) -> Step<Job, After, Ended<Value>>
-        ensures { (port : Port) (b : List ℕ) → told_after port b result ≡ end (answer, []) }
-    {
-        Step::Done(Ended { answer, words: 0 })
-    }
-
-    pub fn nothing(port: Port, got: Result<u32, Error>) -> Step<Job, After, Ended<Value>>
-        ensures { (b : List ℕ) → told_after port b result ≡ after_nothing got }
-    {
-        After::plain(got.map(|_| Value::Nothing))
-    }
-
-    pub fn word(port: Port, got: Result<u32, Error>) -> Step<Job, After, Ended<Value>>
-        ensures { (b : List ℕ) → told_after port b result ≡ after_word got }
-    {
-        After::plain(got.map(|v| Value::Word(v)))
-    }
-
-    fn veto(port: Port, got: Result<u32, Error>) -> Step<Job, After, Ended<Value>>
-        ensures { (b : List ℕ) → told_after port b result ≡ after_veto got }
-    {
-        After::plain(got.map(|v| Value::Flag(v & 1 != 0)))
-    }
-
-    #[tactic(auto, using(reference::proofs::Hardware::linked_document))]
-    fn link(port: Port, got: Result<u32, Error>) -> Step<Job, After, Ended<Value>>
-        ensures { (b : List ℕ) → told_after port b result ≡ after_link port got }
-    {
-        After::plain(got.map(|v| Value::Link(Link::of(port.family, v))))
-    }
-
-    fn abilities(port: Port, got: Result<u32, Error>) -> Step<Job, After, Ended<Value>>
-        ensures { (b : List ℕ) → told_after port b result ≡ after_abilities got }
-    {
-        After::plain(got.map(|v| Value::Abilities(speeds_of(v))))
-    }
-
-    // The words are those of the block, after an error too.
-    fn command(port: Port, n: u32, given: Ended<u32>) -> Step<Job, After, Ended<Value>>
-        ensures { (b : List ℕ) → told_after port b result ≡ after_command n given.answer (take given.words b) }
-    {
-        let answer = given.answer.map(|v| Value::Command {
-            status: (v % 256) as u8,
-            words: n,
-        });
-        Step::Done(Ended {
-            answer,
-            words: given.words,
-        })
-    }
-
-    fn token(port: Port, take: bool, got: Result<u32, Error>) -> Step<Job, After, Ended<Value>>
-        ensures { (b : List ℕ) → told_after port b result ≡ answer value.Flag (token_got take got) }
-    {
-        let token = Token { take };
-        After::plain(token.answered(got).map(|v| Value::Flag(v)))
-    }
-
-    #[tactic(auto, using(hardware::proofs::Laws::then_assoc))]
-    pub fn activity(
-        port: Port,
-        asked: Asked,
-        step: Step<Job, Activity, Result<Words, Error>>,
-    ) -> Step<Job, After, Ended<Value>>
-        ensures { (b : List ℕ) → told_after port b result ≡ answer value.Activity (told_activity port asked b step) }
-    {
-        match step {
-            Step::Ask(job, s) => Step::Ask(job, After::Activity(asked, s)),
-            Step::Done(r) => After::plain(r.map(|v| Value::Activity(v))),
-        }
-    }
-
-    #[tactic(auto, using(hardware::proofs::Laws::then_assoc))]
-    pub fn bringup(
-        managed: Managed,
-        step: Step<Job, Bringup, Result<Value, Error>>,
-    ) -> Step<Job, After, Ended<Value>>
-        ensures { (b : List ℕ) → told_after managed.port b result ≡ keep (told_bringup managed b step) [] }
-    {
-        match step {
-            Step::Ask(job, s) => Step::Ask(job, After::Bringup(managed.veto, s)),
-            Step::Done(answer) => After::plain(answer),
-        }
-    }
-
-    #[tactic(auto, using(hardware::proofs::Laws::then_assoc))]
-    pub fn poll(
-        port: Port,
-        watch: Watch,
-        step: Step<Job, Poll, Result<Polled, Error>>,
-    ) -> Step<Job, After, Ended<Value>>
-        ensures { (b : List ℕ) → told_after port b result ≡ answer poll_value (told_poll port watch b step) }
-    {
-        match step {
-            Step::Ask(job, s) => Step::Ask(job, After::Poll(watch, s)),
-            Step::Done(Err(e)) => After::plain(Err(e)),
-            Step::Done(Ok(polled)) => {
-                After::plain(Ok(Value::Poll {
-                    copper: polled.copper,
-                    forced: polled.left.forced,
-                    reforced: polled.left.reforced,
-                }))
-            }
-        }
-    }
-
-    #[tactic(auto, using(hardware::proofs::Laws::then_assoc))]
-    pub fn next(
-        self,
-        port: Port,
-        block: &mut [u32; 16],
-        given: Ended<u32>,
-    ) -> Step<Job, After, Ended<Value>>
-        ensures { told_after port block.new result ≡ resume_after port self given.answer (take given.words block.old) }
+impl Operation {
+    // The PHY address and the MDIO device address among its arguments, 0 where it has none.
+    #[tactic(auto, unfolding(crate::specs::Addresses::addresses))]
+    fn addresses(self) -> (u32, u32)
+        ensures { addresses self ≡ result }
     {
         match self {
-            After::Nothing => After::nothing(port, given.answer),
-            After::Word => After::word(port, given.answer),
-            After::Veto => After::veto(port, given.answer),
-            After::Link => After::link(port, given.answer),
-            After::Abilities => After::abilities(port, given.answer),
-            After::Command(n) => After::command(port, n, given),
-            After::Token(take) => After::token(port, take, given.answer),
-            After::Activity(asked, s) => {
-                let step = s.next(asked, port, block, given);
-                After::activity(port, asked, step)
-            }
-            After::Mdio(s) => s.next(port, given.answer),
-            After::Kr(s) => s.next(port, given.answer),
-            After::Bringup(veto, s) => {
-                let managed = Managed { port, veto };
-                let step = s.next(managed, block, given);
-                After::bringup(managed, step)
-            }
-            After::Poll(watch, s) => After::poll(port, watch, s.next(watch, port, given.answer)),
+            Operation::ReadReg(phy, device, _) => (phy, device),
+            Operation::WriteReg(phy, device, _, _) => (phy, device),
+            Operation::Modify(at) => (at.phy, at.device),
+            Operation::Probe(phy) => (phy, 0),
+            Operation::Reset(phy, _) => (phy, 0),
+            Operation::Abilities(phy) => (phy, 0),
+            Operation::Advertise(asked) => (asked.phy, 0),
+            Operation::AnLink(phy) => (phy, 0),
+            Operation::Poll(watch) => (watch.phy, 0),
+            _ => (0, 0),
         }
+    }
+
+    // Whether a call of `begin` with this host block is turned away: 20 to 23.
+    pub fn refused(self, port: Port, block: &[u32]) -> Result<(), Error>
+        ensures { refused port self block.now ≡ result }
+    {
+        let (phy, device) = self.addresses();
+        port.refusal(phy, device, block.len())
     }
 }

@@ -8,7 +8,8 @@ pub mod Sideband
 pub mod Access
 pub mod Activity
 pub mod Phy
-pub mod Operations
+pub mod Arguments
+pub mod After
 pub mod Kr
 pub mod X552
 pub mod X553

@@ -6,7 +6,7 @@ pub mod Hardware
 pub mod Hostif
 pub mod Kr
 pub mod Mdio
-pub mod Operations
+pub mod After
 pub mod Packed
 pub mod Phy
 pub mod Sideband

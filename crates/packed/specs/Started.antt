@@ -8,9 +8,9 @@ use Rattle.hardware.specs.declared.Action.{Action}
 use Rattle.hardware.specs.declared.Step.TheVariants as stepv
 use Rattle.hardware.specs.declared.Step.{Step}
 use Rattle.packed.specs.Access.{get_access, words_access}
+use Rattle.packed.specs.After.{get_after, words_after}
 use Rattle.packed.specs.Answers.{get_value, words_value}
 use Rattle.packed.specs.Hardware.{get_action, get_error, words_action, words_error}
-use Rattle.packed.specs.Operations.{get_after, words_after}
 use Rattle.packed.specs.Packed.{get_result, words_result}
 use Rattle.started.specs.declared.operation.Op.{Op}
 

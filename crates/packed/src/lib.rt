@@ -3,13 +3,13 @@
 
 pub mod p_access;
 pub mod p_activity;
+pub mod p_after;
 pub mod p_answers;
 pub mod p_bringup;
 pub mod p_hardware;
 pub mod p_hostif;
 pub mod p_kr;
 pub mod p_mdio;
-pub mod p_operations;
 pub mod p_phy;
 pub mod p_sideband;
 pub mod p_started;

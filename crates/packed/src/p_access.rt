@@ -10,7 +10,7 @@ use access::hold::{BitsPlace, Hold, TokenPlace};
 use access::locked::{HoldPlace, Locked};
 use hostif::command::Command;
 use mdio::mdio::{Mdio, Wanted};
-use sideband::kr::{Kr, KrWanted};
+use sideband::kr_access::{Kr, KrWanted};
 use sideband::nvm::Nvm;
 use sync::sync::Sync;
 

@@ -6,7 +6,7 @@ use crate::read::{after, word_at};
 use crate::tape::{word, zeros};
 use hostif::post::Post;
 use sideband::idle::Idle;
-use sideband::kr::{Kr, KrWanted};
+use sideband::kr_access::{Kr, KrWanted};
 use sideband::nvm::Nvm;
 
 impl Packed for KrWanted {

@@ -5,9 +5,9 @@ use crate::packed::Packed;
 use crate::read::{after, joined, word_at};
 use crate::tape::{long, word, zeros};
 use access::access::{Access, Ended};
+use after::After;
 use answers::Value;
 use hardware::{Action, Step};
-use operations::After;
 use started::operation::Op;
 
 impl Packed for Step<Action, Op, Ended<Value>> {

@@ -8,10 +8,10 @@ use Rattle.hardware.specs.declared.Port.{Port}
 use Rattle.reference.specs.Mdio.{bit, nbase_keep, nbase_set, advertise}
 use Rattle.phy.specs.Modify.{modify_of, resume_modify}
 use Rattle.phy.specs.declared.advertise.Advertise.{Advertise}
-use Rattle.phy.specs.declared.advertise.Advertised.{Advertised}
+use Rattle.arguments.specs.declared.Advertised.{Advertised}
 use Rattle.phy.specs.declared.advertise.AdvertisePlace.{AdvertisePlace}
 use Rattle.phy.specs.declared.advertise.AdvertisePlace.TheVariants as place
-use Rattle.phy.specs.declared.modify.Register.{Register}
+use Rattle.arguments.specs.declared.Register.{Register}
 
 -- the Rust's function, of these arguments
 abbrev pub advertise_of : Port → Advertised → Call Bool

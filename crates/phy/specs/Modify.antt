@@ -9,7 +9,7 @@ use Rattle.access.specs.Access.{job_talk}
 use Rattle.access.specs.declared.access.Job.{Job}
 use Rattle.phy.specs.declared.modify.Modify.{Modify}
 use Rattle.phy.specs.declared.modify.Modify.TheVariants as modify
-use Rattle.phy.specs.declared.modify.Register.{Register}
+use Rattle.arguments.specs.declared.Register.{Register}
 
 -- the Rust's function, of these arguments
 abbrev pub modify_of : Port → Register → Call ℕ

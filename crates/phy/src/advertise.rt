@@ -4,19 +4,11 @@ ghost use Rattle.reference.specs.Mdio.{bit, nbase_keep, nbase_set};
 ghost use Rattle.phy.specs.Modify.{told_modify};
 ghost use Rattle.phy.specs.Advertise.{register_at, register_of, advertise_of, advertise_at, advertise_then, advertise_after, resume_advertise, told_advertise};
 
-use crate::modify::{Modify, Register};
+use crate::modify::Modify;
 use access::access::Job;
 use answers::Speeds;
+use arguments::{Advertised, Register};
 use hardware::{Error, Port, Step};
-
-// advertise's arguments.
-#[derive(Clone, Copy)]
-pub struct Advertised {
-    pub phy: u32,
-    pub speeds: Speeds,
-    pub nbase: Option<bool>,
-    pub veto: bool,
-}
 
 // Which call of modify: the register of each speed, and the restart.
 #[derive(Clone, Copy)]
@@ -41,7 +33,7 @@ fn bit(mask: u16, on: bool) -> u16
     if on { mask } else { 0 }
 }
 
-impl Advertised {
+impl Advertise {
     #[tactic(auto, unfolding(reference::specs::Mdio::nbase_keep))]
     fn keep(nbase: Option<bool>) -> u16
         ensures { nbase_keep nbase ≡ result }
@@ -63,11 +55,11 @@ impl Advertised {
     }
 
     // A register of AN.
-    fn at(self, register: u16, keep: u16, set: u16) -> Register
-        ensures { register_at self register keep set ≡ result }
+    fn at(asked: Advertised, register: u16, keep: u16, set: u16) -> Register
+        ensures { register_at asked register keep set ≡ result }
     {
         Register {
-            phy: self.phy,
+            phy: asked.phy,
             device: Register::AN,
             register,
             keep,
@@ -75,22 +67,35 @@ impl Advertised {
         }
     }
 
-    fn register(self, place: AdvertisePlace) -> Register
-        ensures { register_of self place ≡ result }
+    fn register(asked: Advertised, place: AdvertisePlace) -> Register
+        ensures { register_of asked place ≡ result }
     {
         match place {
-            AdvertisePlace::Ten => self.at(0x20, 0xefff, bit(0x1000, self.speeds.g10)),
+            AdvertisePlace::Ten => Advertise::at(
+                asked,
+                0x20,
+                0xefff,
+                bit(0x1000, asked.speeds.g10),
+            ),
             AdvertisePlace::One => {
-                let keep = Advertised::keep(self.nbase);
-                self.at(0xc400, keep, Advertised::set(self.nbase, self.speeds.g1))
+                let keep = Advertise::keep(asked.nbase);
+                Advertise::at(
+                    asked,
+                    0xc400,
+                    keep,
+                    Advertise::set(asked.nbase, asked.speeds.g1),
+                )
             }
-            AdvertisePlace::Hundred => self.at(0x10, 0xfe7f, bit(0x100, self.speeds.m100)),
-            AdvertisePlace::Restart => self.at(0, 0xffff, 0x200),
+            AdvertisePlace::Hundred => Advertise::at(
+                asked,
+                0x10,
+                0xfe7f,
+                bit(0x100, asked.speeds.m100),
+            ),
+            AdvertisePlace::Restart => Advertise::at(asked, 0, 0xffff, 0x200),
         }
     }
-}
 
-impl Advertise {
     #[tactic(auto, using(hardware::proofs::Laws::then_assoc))]
     fn begin(
         asked: Advertised,
@@ -99,7 +104,7 @@ impl Advertise {
     ) -> Step<Job, Advertise, Result<bool, Error>>
         ensures { (b : List ℕ) → told_advertise port asked b result ≡ advertise_at port asked place }
     {
-        let job = Modify::first(asked.register(place), port);
+        let job = Modify::first(Advertise::register(asked, place), port);
         let modify = Modify::Reading;
         Step::Ask(job, Advertise { place, modify })
     }
@@ -157,7 +162,9 @@ impl Advertise {
     ) -> Step<Job, Advertise, Result<bool, Error>>
         ensures { (b : List ℕ) → told_advertise port asked b result ≡ resume_advertise port asked self got }
     {
-        let step = self.modify.next(asked.register(self.place), port, got);
+        let step = self
+            .modify
+            .next(Advertise::register(asked, self.place), port, got);
         Advertise::after_modify(asked, port, self.place, step)
     }
 }

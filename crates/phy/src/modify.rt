@@ -3,17 +3,8 @@ ghost use Rattle.std.specs.Prelude.{ℕ, List, ◌≡◌};
 ghost use Rattle.phy.specs.Modify.{modify_of, begun_modify, resume_modify, told_modify};
 
 use access::access::Job;
+use arguments::Register;
 use hardware::{Error, Port, Step};
-
-// modify's arguments. The bits to keep and to set stand for the Rust's closure.
-#[derive(Clone, Copy)]
-pub struct Register {
-    pub phy: u32,
-    pub device: u32,
-    pub register: u16,
-    pub keep: u16,
-    pub set: u16,
-}
 
 // It ends with the value written.
 #[derive(Clone, Copy)]
@@ -21,17 +12,6 @@ pub enum Modify {
     Reading,
     // the value written
     Writing(u16),
-}
-
-impl Register {
-    // MDIO devices.
-    pub const PMA: u32 = 1;
-
-    pub const PHY_XS: u32 = 4;
-
-    pub const AN: u32 = 7;
-
-    pub const VENDOR: u32 = 0x1e;
 }
 
 impl Modify {

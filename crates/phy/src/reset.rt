@@ -4,8 +4,8 @@ ghost use Rattle.hardware.specs.Talk.{end};
 ghost use Rattle.reference.specs.Mdio.{reset, reset_times, reset_poll};
 ghost use Rattle.phy.specs.Reset.{reset_checked, reset_seen, resume_reset, told_reset};
 
-use crate::modify::Register;
 use access::access::Job;
+use arguments::Register;
 use hardware::{Error, Port, Step};
 
 // The number is how many polls are left after this one.

@@ -5,4 +5,3 @@ pub mod Prepare
 pub mod Closures
 pub mod Within
 pub mod Bounds
-pub mod Examples

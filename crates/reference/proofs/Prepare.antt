@@ -12,7 +12,7 @@ use Rattle.answers.specs.declared.Value.TheVariants as valuev
 use Rattle.reference.specs.X552 as x552
 use Rattle.reference.specs.X553 as x553
 use Rattle.reference.proofs.Laws.{pick_then, bind_assoc}
-use Rattle.reference.specs.Operations.{bringup, bringup_of, bringup552, bringup553}
+use Rattle.reference.specs.Bringup.{bringup, bringup_of, bringup552, bringup553}
 
 pub prepare_552 : {A : Type 0} (port : Port) (veto : Bool) (k : x552.Prepared → Call A) → x552.prepare_then port veto k ≡ (x552.prepare port veto >>= k)
 prepare_552 port veto k =

@@ -6,7 +6,6 @@ pub mod Mdio
 pub mod X552
 pub mod X553
 pub mod Watch
-pub mod Operations
+pub mod Out
+pub mod Bringup
 pub mod Closures
-pub mod Bounds
-pub mod Example

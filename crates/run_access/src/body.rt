@@ -7,7 +7,7 @@ use access::body::Body;
 use drive::{Host, machine};
 use hardware::{Action, Error, Step};
 use sideband::idle::Idle;
-use sideband::kr::KrCall;
+use sideband::kr_access::KrCall;
 
 // MDIO cycles and the sideband's as far as they go; the NVM's command stays where it is.
 #[tactic(auto, using(drive::specs::Moves::stays))]

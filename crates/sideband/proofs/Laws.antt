@@ -8,8 +8,8 @@ use Rattle.hardware.specs.declared.Error.TheVariants.{Sideband}
 use Rattle.reference.specs.X552.{iosf_idle, iosf_check}
 use Rattle.reference.proofs.Laws.{bind_assoc}
 use Rattle.sideband.specs.Kr.{kr_body, kr_first}
-use Rattle.sideband.specs.declared.kr.KrWanted.{KrWanted}
-use Rattle.sideband.specs.declared.kr.KrWanted.TheVariants as wanted
+use Rattle.sideband.specs.declared.kr_access.KrWanted.{KrWanted}
+use Rattle.sideband.specs.declared.kr_access.KrWanted.TheVariants as wanted
 
 abbrev zero : Unit {0} → Call ℕ
 zero _ = return 0

@@ -6,10 +6,10 @@ use Rattle.hardware.specs.Talk.{Call, Res, end, ◌>>=◌, ◌>>◌, read_raw, w
 use Rattle.std.specs.Prelude.{ℕ}
 use Rattle.reference.specs.X552.{iosf_idle, iosf_check, kr_read_body, kr_write_body}
 use Rattle.sideband.specs.Idle.{resume_idle}
-use Rattle.sideband.specs.declared.kr.KrWanted.{KrWanted}
-use Rattle.sideband.specs.declared.kr.KrWanted.TheVariants as wanted
-use Rattle.sideband.specs.declared.kr.Kr.{Kr}
-use Rattle.sideband.specs.declared.kr.Kr.TheVariants as kr
+use Rattle.sideband.specs.declared.kr_access.KrWanted.{KrWanted}
+use Rattle.sideband.specs.declared.kr_access.KrWanted.TheVariants as wanted
+use Rattle.sideband.specs.declared.kr_access.Kr.{Kr}
+use Rattle.sideband.specs.declared.kr_access.Kr.TheVariants as kr
 
 -- the closure that it is; a write gives 0
 abbrev pub kr_body : ℕ → KrWanted → Call ℕ

@@ -2,5 +2,5 @@
 #![tactic(auto)]
 
 pub mod idle;
-pub mod kr;
+pub mod kr_access;
 pub mod nvm;

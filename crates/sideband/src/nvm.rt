@@ -6,7 +6,7 @@ ghost use Rattle.sideband.specs.Nvm.{nvm_block, nvm_posted, resume_nvm, told_nvm
 
 use hardware::{Action, Error, Reply, Step, raw};
 use hostif::post::Post;
-use words::hostif::{flex_mng, nvm_address};
+use words::host_words::{flex_mng, nvm_address};
 
 // Its answer is the word.
 #[derive(Clone, Copy)]

@@ -2,9 +2,9 @@
 use Rattle.hardware.specs.Talk.{Talk, and_then}
 use Rattle.std.specs.Prelude.{ℕ, List}
 use Rattle.hardware.specs.declared.Port.{Port}
-use Rattle.reference.specs.Operations.{Out}
+use Rattle.reference.specs.Out.{Out}
 use Rattle.access.specs.Access.{told_access}
-use Rattle.operations.specs.After.{after_nothing, told_after}
+use Rattle.after.specs.After.{after_nothing, told_after}
 use Rattle.start.specs.declared.start.First.{First}
 use Rattle.start.specs.declared.start.First.TheVariants as first
 

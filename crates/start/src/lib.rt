@@ -1,5 +1,4 @@
-// What can be begun, and how each operation begins.
+// How each operation begins.
 #![tactic(auto)]
 
-pub mod operation;
 pub mod start;

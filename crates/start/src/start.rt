@@ -1,31 +1,30 @@
 // How each operation begins.
 ghost use Rattle.std.specs.Prelude.{◌≡◌, ℕ, List, [], length, take};
-ghost use Rattle.reference.specs.Operations as ops;
-ghost use Rattle.operations.specs.After.{told_after};
+ghost use Rattle.after.specs.After.{told_after};
 ghost use Rattle.start.specs.First.{told_first};
-ghost use Rattle.start.specs.Operation.{op_of};
-ghost use Rattle.start.specs.declared.operation.Operation.TheVariants as operation;
+ghost use Rattle.operations.specs.Operations.{operation};
+ghost use Rattle.operations.specs.declared.Operation.TheVariants as ops;
 
-use crate::operation::Operation;
 use access::access::{Access, Ended, Job};
-use activity::{Activity, Asked};
+use activity::Activity;
+use after::After;
+use after::kr_registers::Kr;
+use after::registers::Mdio;
 use answers::Value;
+use arguments::{Advertised, Asked, Change, Register, Watch};
 use bringup::Bringup;
 use hardware::{Action, Managed, Port, Step};
 use hostif::token::Token;
-use kr::modify::{Change, KrModify};
+use kr::modify::KrModify;
 use kr::sequence::{KrPlace, Sequence};
-use operations::After;
-use operations::kr_registers::Kr;
-use operations::registers::Mdio;
-use phy::advertise::{Advertise, Advertised};
+use operations::Operation;
+use phy::advertise::Advertise;
 use phy::an_link::AnLink;
-use phy::modify::{Modify, Register};
+use phy::modify::Modify;
 use phy::probe::Probe;
 use phy::reset::Reset;
 use phy::scan::Scan;
 use watch::poll::Poll;
-use watch::store::Watch;
 
 // An operation's first step: `acquire` and `release` have an access alone, of which nothing is made.
 #[derive(Clone, Copy)]
@@ -43,14 +42,14 @@ fn count(block: &[u32], words: usize) -> u32
 }
 
 fn command(port: Port, block: &mut [u32; 16], words: usize) -> Step<Job, After, Ended<Value>>
-    ensures { told_after port block.new result ≡ ops.operation port (ops.Command (take words block.old)) }
+    ensures { told_after port block.new result ≡ operation port ops.Command (take words block.old) }
 {
     let n = count(block, words);
     Step::Ask(Job::Command(words), After::Command(n))
 }
 
 fn token(port: Port, take: bool, block: &mut [u32; 16]) -> Step<Job, After, Ended<Value>>
-    ensures { told_after port block.new result ≡ ops.operation port (ops.Token take) }
+    ensures { told_after port block.new result ≡ operation port (ops.Token take) [] }
 {
     let token = Token { take };
     token.put(port, block);
@@ -59,15 +58,15 @@ fn token(port: Port, take: bool, block: &mut [u32; 16]) -> Step<Job, After, Ende
 
 #[tactic(auto, using(hardware::proofs::Laws::then_assoc))]
 fn phy_activity(port: Port, asked: Asked, block: &mut [u32; 16]) -> Step<Job, After, Ended<Value>>
-    ensures { told_after port block.new result ≡ ops.operation port (op_of (operation.PhyActivity asked) block.old) }
+    ensures { told_after port block.new result ≡ operation port (ops.PhyActivity asked) [] }
 {
     let step = Activity::start(asked, port, block);
     After::activity(port, asked, step)
 }
 
-#[tactic(auto, using(hardware::proofs::Laws::then_assoc, operations::proofs::Laws::word_begun))]
+#[tactic(auto, using(hardware::proofs::Laws::then_assoc, after::proofs::Laws::word_begun))]
 fn read_reg(port: Port, phy: u32, device: u32, register: u16) -> Step<Job, After, Ended<Value>>
-    ensures { (b : List ℕ) → told_after port b result ≡ ops.operation port (ops.ReadReg phy device register) }
+    ensures { (b : List ℕ) → told_after port b result ≡ operation port (ops.ReadReg phy device register) [] }
 {
     Step::Ask(Job::ReadReg(phy, device, register), After::Word)
 }
@@ -79,14 +78,14 @@ fn write_reg(
     register: u16,
     value: u16,
 ) -> Step<Job, After, Ended<Value>>
-    ensures { (b : List ℕ) → told_after port b result ≡ ops.operation port (ops.WriteReg phy device register value) }
+    ensures { (b : List ℕ) → told_after port b result ≡ operation port (ops.WriteReg phy device register value) [] }
 {
     let job = Job::WriteReg(phy, device, register, value);
     Step::Ask(job, After::Nothing)
 }
 
 fn abilities(port: Port, phy: u32) -> Step<Job, After, Ended<Value>>
-    ensures { (b : List ℕ) → told_after port b result ≡ ops.operation port (ops.Abilities phy) }
+    ensures { (b : List ℕ) → told_after port b result ≡ operation port (ops.Abilities phy) [] }
 {
     let job = Job::ReadReg(phy, Register::PMA, 4);
     Step::Ask(job, After::Abilities)
@@ -94,7 +93,7 @@ fn abilities(port: Port, phy: u32) -> Step<Job, After, Ended<Value>>
 
 #[tactic(auto, using(hardware::proofs::Laws::then_assoc))]
 fn modify(port: Port, at: Register) -> Step<Job, After, Ended<Value>>
-    ensures { (b : List ℕ) → told_after port b result ≡ ops.operation port (op_of (operation.Modify at) []) }
+    ensures { (b : List ℕ) → told_after port b result ≡ operation port (ops.Modify at) [] }
 {
     let step = Modify::start(at, port);
     Mdio::modify(port, at, step)
@@ -102,7 +101,7 @@ fn modify(port: Port, at: Register) -> Step<Job, After, Ended<Value>>
 
 #[tactic(auto, using(hardware::proofs::Laws::then_assoc))]
 fn probe(port: Port, phy: u32) -> Step<Job, After, Ended<Value>>
-    ensures { (b : List ℕ) → told_after port b result ≡ ops.operation port (ops.Probe phy) }
+    ensures { (b : List ℕ) → told_after port b result ≡ operation port (ops.Probe phy) [] }
 {
     let step = Probe::start(phy, port);
     Mdio::probe(port, phy, step)
@@ -110,7 +109,7 @@ fn probe(port: Port, phy: u32) -> Step<Job, After, Ended<Value>>
 
 #[tactic(auto, using(hardware::proofs::Laws::then_assoc))]
 fn scan(port: Port) -> Step<Job, After, Ended<Value>>
-    ensures { (b : List ℕ) → told_after port b result ≡ ops.operation port ops.Scan }
+    ensures { (b : List ℕ) → told_after port b result ≡ operation port ops.Scan [] }
 {
     let step = Scan::start(port);
     Mdio::scan(port, step)
@@ -118,7 +117,7 @@ fn scan(port: Port) -> Step<Job, After, Ended<Value>>
 
 #[tactic(auto, using(hardware::proofs::Laws::then_assoc))]
 fn reset(port: Port, phy: u32, x557: bool) -> Step<Job, After, Ended<Value>>
-    ensures { (b : List ℕ) → told_after port b result ≡ ops.operation port (ops.Reset phy x557) }
+    ensures { (b : List ℕ) → told_after port b result ≡ operation port (ops.Reset phy x557) [] }
 {
     let step = Reset::start(phy, x557, port);
     Mdio::reset(port, phy, x557, step)
@@ -126,7 +125,7 @@ fn reset(port: Port, phy: u32, x557: bool) -> Step<Job, After, Ended<Value>>
 
 #[tactic(auto, using(hardware::proofs::Laws::then_assoc))]
 fn advertise(port: Port, asked: Advertised) -> Step<Job, After, Ended<Value>>
-    ensures { (b : List ℕ) → told_after port b result ≡ ops.operation port (op_of (operation.Advertise asked) []) }
+    ensures { (b : List ℕ) → told_after port b result ≡ operation port (ops.Advertise asked) [] }
 {
     let step = Advertise::start(asked, port);
     Mdio::advertise(port, asked, step)
@@ -134,28 +133,28 @@ fn advertise(port: Port, asked: Advertised) -> Step<Job, After, Ended<Value>>
 
 #[tactic(auto, using(hardware::proofs::Laws::then_assoc))]
 fn an_link(port: Port, phy: u32) -> Step<Job, After, Ended<Value>>
-    ensures { (b : List ℕ) → told_after port b result ≡ ops.operation port (ops.AnLink phy) }
+    ensures { (b : List ℕ) → told_after port b result ≡ operation port (ops.AnLink phy) [] }
 {
     let step = AnLink::start(phy, port);
     Mdio::an_link(port, phy, step)
 }
 
-#[tactic(auto, using(hardware::proofs::Laws::then_assoc, operations::proofs::Laws::word_begun))]
+#[tactic(auto, using(hardware::proofs::Laws::then_assoc, after::proofs::Laws::word_begun))]
 fn kr_read(port: Port, address: u32) -> Step<Job, After, Ended<Value>>
-    ensures { (b : List ℕ) → told_after port b result ≡ ops.operation port (ops.KrRead address) }
+    ensures { (b : List ℕ) → told_after port b result ≡ operation port (ops.KrRead address) [] }
 {
     Step::Ask(Job::KrRead(address), After::Word)
 }
 
 fn kr_write(port: Port, address: u32, value: u32) -> Step<Job, After, Ended<Value>>
-    ensures { (b : List ℕ) → told_after port b result ≡ ops.operation port (ops.KrWrite address value) }
+    ensures { (b : List ℕ) → told_after port b result ≡ operation port (ops.KrWrite address value) [] }
 {
     Step::Ask(Job::KrWrite(address, value), After::Nothing)
 }
 
 #[tactic(auto, using(hardware::proofs::Laws::then_assoc))]
 fn kr_modify(port: Port, change: Change) -> Step<Job, After, Ended<Value>>
-    ensures { (b : List ℕ) → told_after port b result ≡ ops.operation port (op_of (operation.KrModify change) []) }
+    ensures { (b : List ℕ) → told_after port b result ≡ operation port (ops.KrModify change) [] }
 {
     let step = KrModify::start(change, port);
     Kr::modify(port, change, step)
@@ -163,7 +162,7 @@ fn kr_modify(port: Port, change: Change) -> Step<Job, After, Ended<Value>>
 
 #[tactic(auto, using(hardware::proofs::Laws::then_assoc), unfolding(reference::specs::X552::restart_an))]
 fn restart_an(port: Port) -> Step<Job, After, Ended<Value>>
-    ensures { (b : List ℕ) → told_after port b result ≡ ops.operation port ops.RestartAn }
+    ensures { (b : List ℕ) → told_after port b result ≡ operation port ops.RestartAn [] }
 {
     let step = Sequence::start(KrPlace::Restart, port);
     Kr::sequence(port, step)
@@ -171,28 +170,28 @@ fn restart_an(port: Port) -> Step<Job, After, Ended<Value>>
 
 #[tactic(auto, using(hardware::proofs::Laws::then_assoc), unfolding(reference::specs::X552::kr_autoneg))]
 fn kr_autoneg(port: Port, kr: bool, kx: bool) -> Step<Job, After, Ended<Value>>
-    ensures { (b : List ℕ) → told_after port b result ≡ ops.operation port (ops.KrAutoneg kr kx) }
+    ensures { (b : List ℕ) → told_after port b result ≡ operation port (ops.KrAutoneg kr kx) [] }
 {
     let step = Sequence::start(KrPlace::Advertise(kr, kx), port);
     Kr::sequence(port, step)
 }
 
-#[tactic(auto, using(hardware::proofs::Laws::then_assoc, operations::proofs::Laws::word_begun))]
+#[tactic(auto, using(hardware::proofs::Laws::then_assoc, after::proofs::Laws::word_begun))]
 fn nvm_word(port: Port, word: u16) -> Step<Job, After, Ended<Value>>
-    ensures { (b : List ℕ) → told_after port b result ≡ ops.operation port (ops.NvmWord word) }
+    ensures { (b : List ℕ) → told_after port b result ≡ operation port (ops.NvmWord word) [] }
 {
     Step::Ask(Job::NvmWord(word), After::Word)
 }
 
 fn after_reset(port: Port) -> Step<Job, After, Ended<Value>>
-    ensures { (b : List ℕ) → told_after port b result ≡ ops.operation port ops.AfterReset }
+    ensures { (b : List ℕ) → told_after port b result ≡ operation port ops.AfterReset [] }
 {
     Mdio::after_reset(port)
 }
 
 #[tactic(auto, using(hardware::proofs::Laws::then_assoc))]
 fn bringup(port: Port, veto: bool, block: &mut [u32; 16]) -> Step<Job, After, Ended<Value>>
-    ensures { told_after port block.new result ≡ ops.operation port (ops.Bringup veto) }
+    ensures { told_after port block.new result ≡ operation port (ops.Bringup veto) [] }
 {
     let managed = Managed { port, veto };
     let step = Bringup::start(managed, block);
@@ -200,16 +199,16 @@ fn bringup(port: Port, veto: bool, block: &mut [u32; 16]) -> Step<Job, After, En
 }
 
 fn poll(port: Port, watch: Watch) -> Step<Job, After, Ended<Value>>
-    ensures { (b : List ℕ) → told_after port b result ≡ ops.operation port (op_of (operation.Poll watch) []) }
+    ensures { (b : List ℕ) → told_after port b result ≡ operation port (ops.Poll watch) [] }
 {
     let step = Poll::start(watch, port);
     After::poll(port, watch, step)
 }
 
 // `words`: how many of the block are the host's.
-#[tactic(auto, using(hardware::proofs::Laws::then_assoc, operations::proofs::Laws::nothing_begun))]
+#[tactic(auto, using(hardware::proofs::Laws::then_assoc, after::proofs::Laws::nothing_begun))]
 pub fn start(what: Operation, port: Port, block: &mut [u32; 16], words: usize) -> First
-    ensures { told_first port block.new result ≡ ops.operation port (op_of what (take words block.old)) }
+    ensures { told_first port block.new result ≡ operation port what (take words block.old) }
 {
     match what {
         Operation::Veto => First::After(Step::Ask(Job::Read(Port::MMNGC), After::Veto)),

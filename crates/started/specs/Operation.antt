@@ -2,19 +2,15 @@
 use Rattle.hardware.specs.Talk.{Talk, and_then, Reply}
 use Rattle.std.specs.Prelude.{ℕ, List}
 use Rattle.hardware.specs.declared.Port.{Port}
-use Rattle.reference.specs.Operations as ops
+use Rattle.reference.specs.Out.{Out}
 use Rattle.access.specs.Access.{resume_access}
-use Rattle.operations.specs.After.{out, resume_after}
+use Rattle.after.specs.After.{out, resume_after}
 use Rattle.access.specs.declared.access.Ended.{Ended}
 use Rattle.answers.specs.declared.Value.{Value}
 use Rattle.hardware.specs.declared.Action.{Action}
 use Rattle.hardware.specs.declared.Step.{Step}
 use Rattle.hardware.specs.Told.{told_by}
 use Rattle.started.specs.declared.operation.Op.{Op}
-
--- what a conversation ends with: its answer, and the host block of a `command` as it is then
-abbrev pub Out : Type 0
-Out = ops.Out
 
 -- what a running operation says, from the reply that it waits for, with the host block as it is now
 abbrev pub resume_op : Port → Op → Reply → List ℕ → Talk Out

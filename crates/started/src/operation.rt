@@ -2,14 +2,14 @@
 ghost use Rattle.std.specs.Prelude.{◌≡◌};
 ghost use Rattle.hardware.specs.Talk.{and_then};
 ghost use Rattle.access.specs.Access.{told_access, job_talk};
-ghost use Rattle.operations.specs.After.{out, resume_after, told_after};
+ghost use Rattle.after.specs.After.{out, resume_after, told_after};
 ghost use Rattle.started.specs.Operation.{resume_op, told};
 
 use access::access::{Access, Ended, Job};
+use after::After;
 use answers::Value;
 use drive::Host;
 use hardware::{Action, Error, Port, Reply, Step};
-use operations::After;
 use run_access::lent::{Lent, Runs, run};
 
 // A running operation, at the action that its access asks for.

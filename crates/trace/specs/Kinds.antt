@@ -2,7 +2,7 @@
 use Rattle.std.specs.Prelude.{ℕ, Bool, List, [], ◌∷◌, eqb, leb, Option, Some, None}
 use Rattle.std.specs.Option.{option_and_then, option_map}
 use Rattle.hardware.specs.Talk.{pick}
-use Rattle.start.specs.declared.operation.Operation.{Operation}
+use Rattle.operations.specs.declared.Operation.{Operation}
 
 -- the operation that a line names, and how many of the argument words are its host block
 abbrev pub Line : Type 0

@@ -2,8 +2,8 @@
 use Rattle.std.specs.Prelude.{ℕ, List, [], ◌∷◌}
 use Rattle.hardware.specs.Talk.{pick}
 use Rattle.text.specs.Same.{same}
-use Rattle.kr.specs.declared.modify.Change.{Change}
-use Rattle.start.specs.declared.operation.Operation.TheVariants.{KrRead, KrWrite, KrModify, RestartAn, KrAutoneg, NvmWord, AfterReset}
+use Rattle.arguments.specs.declared.Change.{Change}
+use Rattle.operations.specs.declared.Operation.TheVariants.{KrRead, KrWrite, KrModify, RestartAn, KrAutoneg, NvmWord, AfterReset}
 use Rattle.trace.specs.Kinds.{Line, no_more, with_word, with_half, with_truth}
 use Rattle.trace.specs.Setups.{setup_name}
 

@@ -2,10 +2,10 @@
 use Rattle.std.specs.Prelude.{ℕ, Bool, List, [], ◌∷◌, Option}
 use Rattle.hardware.specs.Talk.{pick}
 use Rattle.text.specs.Same.{same}
-use Rattle.phy.specs.declared.advertise.Advertised.{Advertised}
-use Rattle.phy.specs.declared.modify.Register.{Register}
-use Rattle.start.specs.declared.operation.Operation.{Operation}
-use Rattle.start.specs.declared.operation.Operation.TheVariants.{ReadReg, WriteReg, Modify, Probe, Scan, Reset, Abilities, Advertise, AnLink}
+use Rattle.arguments.specs.declared.Advertised.{Advertised}
+use Rattle.arguments.specs.declared.Register.{Register}
+use Rattle.operations.specs.declared.Operation.{Operation}
+use Rattle.operations.specs.declared.Operation.TheVariants.{ReadReg, WriteReg, Modify, Probe, Scan, Reset, Abilities, Advertise, AnLink}
 use Rattle.trace.specs.Kinds.{Line, no_more, with_word, with_half, with_truth, with_maybe}
 use Rattle.trace.specs.Kr.{kr_name}
 

@@ -2,9 +2,9 @@
 use Rattle.std.specs.Prelude.{ℕ, List, [], ◌∷◌, length, take, Some, None}
 use Rattle.hardware.specs.Talk.{pick}
 use Rattle.text.specs.Same.{same}
-use Rattle.activity.specs.declared.Asked.{Asked}
-use Rattle.start.specs.declared.operation.Operation.{Operation}
-use Rattle.start.specs.declared.operation.Operation.TheVariants.{Veto, Link, Acquire, Release, Command, Token, PhyActivity}
+use Rattle.arguments.specs.declared.Asked.{Asked}
+use Rattle.operations.specs.declared.Operation.{Operation}
+use Rattle.operations.specs.declared.Operation.TheVariants.{Veto, Link, Acquire, Release, Command, Token, PhyActivity}
 use Rattle.trace.specs.Arguments.{numbers, all_numbers}
 use Rattle.trace.specs.Kinds.{Line, no_more, with_word, with_half, with_truth}
 use Rattle.trace.specs.Mdio.{mdio_name}

@@ -4,8 +4,8 @@ use Rattle.hardware.specs.Talk.{pick}
 use Rattle.text.specs.Same.{same}
 use Rattle.answers.specs.declared.Internal.{Internal}
 use Rattle.answers.specs.declared.Internal.TheVariants.{Ixfi, Kr}
-use Rattle.watch.specs.declared.store.Watch.{Watch}
-use Rattle.start.specs.declared.operation.Operation.TheVariants.{Bringup, Poll}
+use Rattle.arguments.specs.declared.Watch.{Watch}
+use Rattle.operations.specs.declared.Operation.TheVariants.{Bringup, Poll}
 use Rattle.trace.specs.Kinds.{Line, no_more, with_word, with_truth, with_status}
 
 abbrev pub with_bringup : List ℕ → Line

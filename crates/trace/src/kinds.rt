@@ -4,7 +4,7 @@ ghost use Rattle.std.specs.Option.{option_map};
 ghost use Rattle.text.specs.Same.{same};
 ghost use Rattle.trace.specs.Kinds.{no_more, word_of, half_of, truth_of, maybe_of, status_of};
 
-use start::operation::Operation;
+use operations::Operation;
 
 #[tactic(auto, using(text::proofs::SameLaws::same_pointwise))]
 pub fn is_name(word: &[u8], name: &[u8]) -> bool

@@ -4,8 +4,8 @@ ghost use Rattle.trace.specs.Kr.{with_kr_read, with_kr_write, with_kr_modify, wi
 
 use crate::kinds::{half, is_name, no_more, truth, word};
 use crate::setups::setup_named;
-use kr::modify::Change;
-use start::operation::Operation;
+use arguments::Change;
+use operations::Operation;
 
 fn kr_read(args: &[u32]) -> Option<(Operation, usize)>
     ensures { with_kr_read args.now ≡ result }

@@ -1,7 +1,7 @@
 // The line that names an operation and its arguments.
 #![tactic(auto)]
 
-pub mod arguments;
+pub mod argument_words;
 pub mod kinds;
 pub mod kr_registers;
 pub mod operation;

@@ -2,17 +2,17 @@
 ghost use Rattle.std.specs.Prelude.{◌≡◌, take, drop};
 ghost use Rattle.std.proofs.lemmas.List.Edits.{sets};
 ghost use Rattle.text.specs.Words.{words};
-ghost use Rattle.start.specs.declared.operation.Operation.TheVariants as operation;
+ghost use Rattle.operations.specs.declared.Operation.TheVariants as operation;
 ghost use Rattle.trace.specs.Arguments.{numbers};
 ghost use Rattle.trace.specs.Kinds.{no_more, with_word, with_truth};
 ghost use Rattle.trace.specs.Operation.{with_block, with_activity, hostif_name, by_name, operation_of};
 
-use crate::arguments::read;
+use crate::argument_words::read;
 use crate::kinds::{half, is_name, no_more, truth, word};
 use crate::registers::mdio_named;
-use activity::Asked;
 use answers::Words;
-use start::operation::Operation;
+use arguments::Asked;
+use operations::Operation;
 
 fn acquire(args: &[u32]) -> Option<(Operation, usize)>
     ensures { with_word (λ mask. no_more (operation.Acquire mask)) args.now ≡ result }

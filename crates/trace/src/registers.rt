@@ -1,14 +1,13 @@
 // The operation lines of mdio.rs.
 ghost use Rattle.std.specs.Prelude.{◌≡◌};
-ghost use Rattle.start.specs.declared.operation.Operation.TheVariants as operation;
+ghost use Rattle.operations.specs.declared.Operation.TheVariants as operation;
 ghost use Rattle.trace.specs.Mdio.{with_read_reg, with_write_reg, with_modify, with_phy, with_reset, with_advertise, phy_name, mdio_name};
 
 use crate::kinds::{half, is_name, maybe, no_more, truth, word};
 use crate::kr_registers::kr_named;
 use answers::Speeds;
-use phy::advertise::Advertised;
-use phy::modify::Register;
-use start::operation::Operation;
+use arguments::{Advertised, Register};
+use operations::Operation;
 
 fn read_reg(args: &[u32]) -> Option<(Operation, usize)>
     ensures { with_read_reg args.now ≡ result }

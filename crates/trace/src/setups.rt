@@ -4,8 +4,8 @@ ghost use Rattle.trace.specs.Setups.{internal_at, with_bringup, with_poll, setup
 
 use crate::kinds::{is_name, no_more, status, truth, word};
 use answers::Internal;
-use start::operation::Operation;
-use watch::store::Watch;
+use arguments::Watch;
+use operations::Operation;
 
 fn bringup(args: &[u32]) -> Option<(Operation, usize)>
     ensures { with_bringup args.now ≡ result }

@@ -15,7 +15,7 @@ use Rattle.phy.specs.AnLink.{resume_an_link}
 use Rattle.watch.specs.declared.poll.Poll.{Poll}
 use Rattle.watch.specs.declared.poll.Poll.TheVariants as pollv
 use Rattle.watch.specs.declared.poll.Polled.{Polled}
-use Rattle.watch.specs.declared.store.Watch.{Watch}
+use Rattle.arguments.specs.declared.Watch.{Watch}
 
 -- the Rust's functions, of this Watch
 abbrev pub poll_of : Port → Watch → Call reference.Polled

@@ -1,5 +1,4 @@
-// x552.rs's Watch: its poll by value, suspended at a job, and what a poll leaves behind.
+// x552.rs's Watch: its poll by value, suspended at a job.
 #![tactic(auto)]
 
 pub mod poll;
-pub mod store;

@@ -3,7 +3,7 @@ use Rattle.std.specs.Prelude.{ℕ, ◌+◌, ◌*◌, ◌/◌, ◌%◌, ◌^◌, 
 use Rattle.hardware.specs.Bits.{bit}
 use Rattle.hardware.specs.Talk.{pick}
 use Rattle.words.specs.Shift.{shl}
-use Rattle.words.specs.declared.mdio.Command.{Command}
+use Rattle.words.specs.declared.msca.Command.{Command}
 
 -- register in bits 0 to 15, device 16 to 20, PHY 21 to 25, operation 26 and 27, go in bit 30; what is too wide is cut
 unfoldable pub command : Command → ℕ

@@ -12,7 +12,7 @@ use Rattle.reference.specs.X552.{without100, copper_advertise, copper_times, cop
 use Rattle.kr.specs.Sequence.{resume_sequence}
 use Rattle.phy.specs.Advertise.{resume_advertise}
 use Rattle.phy.specs.AnLink.{resume_an_link}
-use Rattle.phy.specs.declared.advertise.Advertised.{Advertised}
+use Rattle.arguments.specs.declared.Advertised.{Advertised}
 use Rattle.x552.specs.declared.link.CopperCall.{CopperCall}
 use Rattle.x552.specs.declared.link.CopperLink.{CopperLink}
 use Rattle.x552.specs.declared.link.CopperLink.TheVariants as link

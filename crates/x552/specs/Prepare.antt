@@ -13,7 +13,7 @@ use Rattle.phy.specs.Modify.{resume_modify}
 use Rattle.phy.specs.Probe.{resume_probe}
 use Rattle.phy.specs.Reset.{resume_reset}
 use Rattle.phy.specs.Scan.{resume_scan}
-use Rattle.phy.specs.declared.modify.Register.{Register}
+use Rattle.arguments.specs.declared.Register.{Register}
 use Rattle.x552.specs.declared.prepare.Phy.{Phy}
 use Rattle.x552.specs.declared.prepare.PrepareCopper.{PrepareCopper}
 use Rattle.x552.specs.declared.prepare.PrepareCopper.TheVariants as prepare

@@ -8,12 +8,12 @@ ghost use Rattle.x552.specs.Link.{asked_of, advertise_then, linking_then, links_
 
 use access::access::Job;
 use answers::{CopperSetup, Internal, Speeds, X557};
+use arguments::{Advertised, Register};
 use hardware::{Error, Managed, Port, Step};
 use kr::sequence::{KrPlace, Sequence};
 use phy::abilities::speeds_of;
-use phy::advertise::{Advertise, Advertised};
+use phy::advertise::Advertise;
 use phy::an_link::AnLink;
-use phy::modify::Register;
 
 // What copper_link is given, at its start and at each reply.
 #[derive(Clone, Copy)]

@@ -10,9 +10,10 @@ ghost use Rattle.x552.specs.Prepare.{sel_phy, stall_of, prepared_of, found_then,
 
 use access::access::Job;
 use answers::{Internal, X557};
+use arguments::Register;
 use hardware::{Error, Family, Managed, Port, Step};
 use phy::clock::Clock;
-use phy::modify::{Modify, Register};
+use phy::modify::Modify;
 use phy::probe::Probe;
 use phy::reset::Reset;
 use phy::scan::Scan;

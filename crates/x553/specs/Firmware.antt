@@ -13,7 +13,7 @@ use Rattle.answers.specs.declared.Setup553.TheVariants as setup
 use Rattle.answers.specs.declared.Words.{Words}
 use Rattle.reference.specs.X553.{firmware, firmware_set, firmware_down, firmware_linked, setup_firmware, setup_prepared}
 use Rattle.activity.specs.Activity.{activity_of, resume_activity}
-use Rattle.activity.specs.declared.Asked.{Asked}
+use Rattle.arguments.specs.declared.Asked.{Asked}
 use Rattle.x553.specs.Prepare.{asked_with, no_data, link_of}
 use Rattle.x553.specs.SgmiiAn.{resume_sgmii_an}
 use Rattle.x553.specs.declared.prepare.FirmwarePrepared.{FirmwarePrepared}

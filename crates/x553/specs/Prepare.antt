@@ -13,7 +13,7 @@ use Rattle.reference.specs.X553.{firmware, phy_info, prepare_info}
 use Rattle.reference.specs.X553 as x553
 use Rattle.activity.specs.Activity.{activity_of, begun_activity, resume_activity}
 use Rattle.activity.specs.declared.Activity.{Activity}
-use Rattle.activity.specs.declared.Asked.{Asked}
+use Rattle.arguments.specs.declared.Asked.{Asked}
 use Rattle.x553.specs.declared.prepare.FirmwarePlace.{FirmwarePlace}
 use Rattle.x553.specs.declared.prepare.FirmwarePlace.TheVariants as place
 use Rattle.x553.specs.declared.prepare.PrepareFirmware.{PrepareFirmware}

@@ -9,9 +9,10 @@ use Rattle.answers.specs.declared.Setup553.{Setup553}
 use Rattle.answers.specs.declared.Setup553.TheVariants as setup
 use Rattle.answers.specs.declared.SgmiiSetup.{SgmiiSetup}
 use Rattle.reference.specs.X552.{restart_an}
-use Rattle.kr.specs.Modify.{change, modify_of, resume_modify}
+use Rattle.arguments.specs.Change.{change}
+use Rattle.kr.specs.Modify.{modify_of, resume_modify}
 use Rattle.kr.specs.Sequence.{resume_sequence}
-use Rattle.kr.specs.declared.modify.Change.{Change}
+use Rattle.arguments.specs.declared.Change.{Change}
 use Rattle.x553.specs.declared.sgmii.Sgmii.{Sgmii}
 use Rattle.x553.specs.declared.sgmii.Sgmii.TheVariants as sgmii
 

@@ -7,9 +7,10 @@ use Rattle.std.specs.Prelude.{ℕ, List}
 use Rattle.hardware.specs.declared.Port.{Port}
 use Rattle.words.specs.Kr.{krm}
 use Rattle.reference.specs.X552.{kr_write, restart_an}
-use Rattle.kr.specs.Modify.{change, modify_of, resume_modify}
+use Rattle.arguments.specs.Change.{change}
+use Rattle.kr.specs.Modify.{modify_of, resume_modify}
 use Rattle.kr.specs.Sequence.{resume_sequence}
-use Rattle.kr.specs.declared.modify.Change.{Change}
+use Rattle.arguments.specs.declared.Change.{Change}
 use Rattle.x553.specs.declared.sgmii_an.SgmiiAn.{SgmiiAn}
 use Rattle.x553.specs.declared.sgmii_an.SgmiiAn.TheVariants as sgmii
 

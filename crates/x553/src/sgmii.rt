@@ -7,8 +7,9 @@ ghost use Rattle.x553.specs.Sgmii.{ctrl_of, force_of, lane_of, ctrl_then, force_
 
 use access::access::Job;
 use answers::SgmiiSetup;
+use arguments::Change;
 use hardware::{Error, Port, Step};
-use kr::modify::{Change, KrModify};
+use kr::modify::KrModify;
 use kr::sequence::{KrPlace, Sequence};
 
 // The numbers are LINK_CTRL_1 and SGMII_CTRL as written.

@@ -6,10 +6,11 @@ ghost use Rattle.reference.specs.X553.{sgmii_an};
 ghost use Rattle.x553.specs.SgmiiAn.{ctrl_of, force_of, lane_of, ctrl_then, force_then, lane_then, restart_then, got_again, resume_sgmii_an, told_sgmii_an};
 
 use access::access::Job;
+use arguments::Change;
 use hardware::{Error, Port, Step};
-use kr::modify::{Change, KrModify};
+use kr::modify::KrModify;
 use kr::sequence::{KrPlace, Sequence};
-use words::kr::krm;
+use words::kr_address::krm;
 
 // Its answer is FLX as written.
 #[derive(Clone, Copy)]

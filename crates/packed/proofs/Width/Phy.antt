@@ -4,7 +4,6 @@ use mathlib.Core.Path.{◌≡◌, refl}
 use mathlib.Core.List.{List, ◌++◌}
 use lib.ListN.{length, drop}
 use lib.Seq.{drop_at}
-use Rattle.std.specs.Prelude.{Bool, Option}
 use Rattle.phy.specs.declared.advertise.AdvertisePlace.TheVariants as advertise_placev
 use Rattle.phy.specs.declared.advertise.AdvertisePlace.{AdvertisePlace}
 use Rattle.phy.specs.declared.an_link.AnLink.TheVariants as an_linkv
@@ -18,8 +17,6 @@ use Rattle.phy.specs.declared.probe.Probe.{Probe}
 use Rattle.phy.specs.declared.reset.Reset.TheVariants as resetv
 use Rattle.phy.specs.declared.reset.Reset.{Reset}
 use Rattle.packed.specs.Phy.{words_modify, words_probe, words_reset, words_an_link, words_advertise_place, words_clock}
-use Rattle.packed.proofs.Parts.{option_length}
-use Rattle.packed.specs.Packed.{words_flag, words_option}
 
 pub modify_length : (s : Modify) → length (words_modify s) ≡ 2
 unfolding words_modify
@@ -43,12 +40,6 @@ pub an_link_length : (s : AnLink) → length (words_an_link s) ≡ 1
 unfolding words_an_link
 an_link_length an_linkv.First = refl
 an_link_length an_linkv.Second = refl
-
-pub maybe_flag_length : (s : Option Bool) → length (words_option 1 words_flag s) ≡ 2
-maybe_flag_length = option_length _ (λ _. refl)
-
-pub drop_maybe_flag : (s : Option Bool) (rest : List ℕ) → drop 2 (words_option 1 words_flag s ++ rest) ≡ rest
-drop_maybe_flag s rest = drop_at (words_option 1 words_flag s) rest 2 (maybe_flag_length s)
 
 pub advertise_place_length : (s : AdvertisePlace) → length (words_advertise_place s) ≡ 1
 unfolding words_advertise_place

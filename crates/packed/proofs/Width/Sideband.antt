@@ -6,10 +6,10 @@ use lib.ListN.{length, drop}
 use lib.Seq.{drop_at}
 use Rattle.sideband.specs.declared.idle.Idle.TheVariants as idlev
 use Rattle.sideband.specs.declared.idle.Idle.{Idle}
-use Rattle.sideband.specs.declared.kr.Kr.TheVariants as krv
-use Rattle.sideband.specs.declared.kr.Kr.{Kr}
-use Rattle.sideband.specs.declared.kr.KrWanted.TheVariants as kr_wantedv
-use Rattle.sideband.specs.declared.kr.KrWanted.{KrWanted}
+use Rattle.sideband.specs.declared.kr_access.Kr.TheVariants as krv
+use Rattle.sideband.specs.declared.kr_access.Kr.{Kr}
+use Rattle.sideband.specs.declared.kr_access.KrWanted.TheVariants as kr_wantedv
+use Rattle.sideband.specs.declared.kr_access.KrWanted.{KrWanted}
 use Rattle.sideband.specs.declared.nvm.Nvm.TheVariants as nvmv
 use Rattle.sideband.specs.declared.nvm.Nvm.{Nvm}
 use Rattle.packed.specs.Sideband.{words_kr_wanted, words_idle, words_kr, words_nvm}

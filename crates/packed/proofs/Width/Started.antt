@@ -9,9 +9,9 @@ use Rattle.hardware.specs.declared.Step.{Step}
 use Rattle.started.specs.declared.operation.Op.{Op}
 use Rattle.packed.specs.Started.{words_place}
 use Rattle.packed.proofs.Width.Access.{access_length}
+use Rattle.packed.proofs.Width.After.{after_length}
 use Rattle.packed.proofs.Width.Answers.{value_or_error_length}
 use Rattle.packed.proofs.Width.Hardware.{action_length}
-use Rattle.packed.proofs.Width.Operations.{after_length}
 
 pub place_length : (s : Step Action Op (Ended Value)) → length (words_place s) ≡ 58
 unfolding words_place

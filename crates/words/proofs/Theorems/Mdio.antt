@@ -6,7 +6,7 @@ use lib.Bits.{bit_or}
 use Rattle.hardware.specs.Bits.{bit}
 use Rattle.hardware.specs.Talk.{pick}
 use Rattle.words.specs.Shift.{shl}
-use Rattle.words.specs.declared.mdio.Command.{Command}
+use Rattle.words.specs.declared.msca.Command.{Command}
 use Rattle.words.specs.Mdio.{command, fields, Within, address, address_cycle, read_cycle, write_cycle, cycle, OP-READ, OP-WRITE, COMMAND}
 use Rattle.words.proofs.Bits.{bit_digit, bit_adds, digit_clear, or_apart, field, behind}
 

@@ -1,5 +1,5 @@
 use Rattle.std.proofs.Common.{◌≡◌}
-use Rattle.conversation.specs.Run.{bad}
+use Rattle.calls.specs.Run.{bad}
 use Rattle.conversation.proofs.run.is_bad.Given as goal
 
 abbrev pub invariant-loop-pair : goal.invariant-loop-pair

@@ -1,6 +1,7 @@
 use Rattle.std.proofs.Common.{◌∙◌}
 use Rattle.conversation.specs.Conversation.{conv_of}
-use Rattle.conversation.proofs.Laws.{at_place, run_lent, all_run}
+use Rattle.calls.proofs.Laws.{all_run}
+use Rattle.conversation.proofs.Laws.{at_place, run_lent}
 use Rattle.conversation.proofs.run.run.Goals as goal
 
 pub returns : goal.returns

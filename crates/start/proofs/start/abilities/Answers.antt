@@ -1,4 +1,4 @@
-use Rattle.operations.proofs.Laws.{abilities_begun}
+use Rattle.after.proofs.Laws.{abilities_begun}
 use Rattle.start.proofs.start.abilities.Goals as goal
 
 pub returns : goal.returns

@@ -1,4 +1,4 @@
-use Rattle.operations.proofs.Laws.{command_begun}
+use Rattle.after.proofs.Laws.{command_begun}
 use Rattle.start.proofs.start.command.Goals as goal
 
 pub returns : goal.returns

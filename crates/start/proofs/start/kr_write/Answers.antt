@@ -1,4 +1,4 @@
-use Rattle.operations.proofs.Laws.{nothing_begun}
+use Rattle.after.proofs.Laws.{nothing_begun}
 use Rattle.start.proofs.start.kr_write.Goals as goal
 
 pub returns : goal.returns

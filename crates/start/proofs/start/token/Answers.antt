@@ -1,4 +1,4 @@
-use Rattle.operations.proofs.Laws.{token_begun}
+use Rattle.after.proofs.Laws.{token_begun}
 use Rattle.start.proofs.start.token.Goals as goal
 
 pub returns : goal.returns

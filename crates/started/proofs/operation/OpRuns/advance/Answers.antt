@@ -1,5 +1,5 @@
 use Rattle.std.proofs.Common.{sym}
-use Rattle.operations.specs.After.{resume_after}
+use Rattle.after.specs.After.{resume_after}
 use Rattle.drive.proofs.Laws.{told_as, inside}
 use Rattle.started.proofs.operation.OpRuns.advance.Goals as goal
 

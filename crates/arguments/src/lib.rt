@@ -1,0 +1,120 @@
+// The arguments of the operations that take more than words, and the registers that the Rust itself names in them.
+#![tactic(auto)]
+
+ghost use Rattle.std.specs.Prelude.{◌≡◌};
+ghost use Rattle.arguments.specs.Change.{change};
+ghost use Rattle.arguments.specs.Watch.{new_watch, stored_in};
+
+use answers::{Internal, Speeds, Words};
+
+// hostif.rs's phy_activity.
+#[derive(Clone, Copy)]
+pub struct Asked {
+    pub activity: u16,
+    pub data: Words,
+}
+
+// mdio.rs's modify. The bits to keep and to set stand for the Rust's closure.
+#[derive(Clone, Copy)]
+pub struct Register {
+    pub phy: u32,
+    pub device: u32,
+    pub register: u16,
+    pub keep: u16,
+    pub set: u16,
+}
+
+// mdio.rs's advertise.
+#[derive(Clone, Copy)]
+pub struct Advertised {
+    pub phy: u32,
+    pub speeds: Speeds,
+    pub nbase: Option<bool>,
+    pub veto: bool,
+}
+
+// x552.rs's kr_modify. The bits to keep and to set stand for the Rust's closure.
+#[derive(Clone, Copy)]
+pub struct Change {
+    // the register's address on lan 0
+    pub port0: u32,
+    pub keep: u32,
+    pub set: u32,
+}
+
+// x552.rs's Watch, which is kept from one poll to the next: follows the X557's copper link.
+#[derive(Clone, Copy)]
+pub struct Watch {
+    pub phy: u32,
+    pub internal: Internal,
+    pub forced: Option<u16>,
+    pub reforced: u32,
+}
+
+// What a poll leaves in the Watch: the status that the internal link was forced for, and how often it was.
+#[derive(Clone, Copy)]
+pub struct Left {
+    pub forced: Option<u16>,
+    pub reforced: u32,
+}
+
+impl Register {
+    // MDIO devices.
+    pub const PMA: u32 = 1;
+
+    pub const PHY_XS: u32 = 4;
+
+    pub const AN: u32 = 7;
+
+    pub const VENDOR: u32 = 0x1e;
+}
+
+impl Change {
+    pub const LINK_CTRL_1: u32 = 0x420c;
+
+    // PMD_FLX_MASK_ST20, X553 only
+    pub const FLX: u32 = 0x5054;
+
+    pub const SGMII_CTRL: u32 = 0x42a0;
+
+    pub const RX_TRN_LINKUP_CTRL: u32 = 0x4b00;
+
+    pub const DSP_TXFFE_STATE_4: u32 = 0x4634;
+
+    pub const DSP_TXFFE_STATE_5: u32 = 0x4638;
+
+    pub const TX_COEFF_CTRL_1: u32 = 0x5520;
+
+    // The bits to clear, and those to set.
+    pub fn of(port0: u32, clear: u32, set: u32) -> Change
+        ensures { change port0 clear set ≡ result }
+    {
+        Change {
+            port0,
+            keep: !clear,
+            set,
+        }
+    }
+}
+
+impl Watch {
+    // Nothing forced yet.
+    pub fn new(phy: u32, internal: Internal) -> Watch
+        ensures { result ≡ new_watch phy internal }
+    {
+        Watch {
+            phy,
+            internal,
+            forced: None,
+            reforced: 0,
+        }
+    }
+
+    // The poll itself goes by value; only its outcome is stored behind the reference.
+    pub fn store(&mut self, left: Left)
+        ensures { self.new ≡ stored_in self.old left }
+    {
+        self.forced = left.forced;
+        self.reforced = left.reforced;
+    }
+}

@@ -1,0 +1,37 @@
+-- How long each operation is at the most
+use Rattle.hardware.specs.Talk.{Talk, Res}
+use Rattle.std.proofs.Common.{◌≡◌, ℕ, ◌^◌, ◌<◌, List, length, refl, arith, Err, Ok}
+use Rattle.hardware.specs.Bound.{Within, at_end}
+use Rattle.hardware.specs.declared.Port.{Port}
+use Rattle.hardware.proofs.Refusal.{Taken, taken}
+use Rattle.operations.specs.Addresses.{addresses, refused}
+use Rattle.operations.specs.Bounds.{actions, micros}
+use Rattle.operations.specs.Operations.{operation}
+use Rattle.operations.proofs.Bounds.{operation_within, operation_fits}
+use Rattle.calls.specs.Conversation.{started, begun}
+use Rattle.reference.specs.Out.{Out}
+use Rattle.operations.specs.declared.Operation.{Operation}
+
+-- a bound of a talk that does not come near 2 ^ 64
+pub record Short (t : Talk Out) : Type 0 where
+  pub actions : ℕ
+  pub micros : ℕ
+  pub within : Within t actions micros
+  pub of_actions : actions < 2 ^ 63
+  pub of_micros : micros < 2 ^ 63
+
+-- everything that `begin` makes has one
+pub short_begun : (port : Port) (what : Operation) (ws : List ℕ) → Short (begun port what ws).talk
+short_begun port what ws = go (refused port what ws) (taken port (addresses what).0 (addresses what).1 (length ws))
+  where
+    go : (r : Res (Unit {0})) → (r ≡ Ok tt → Taken port (addresses what).0 (addresses what).1 (length ws)) → Short (started (operation port what ws) r)
+    go (Err e) known = record { actions = 0; micros = 0; within = at_end; of_actions = omega arith; of_micros = omega arith }
+    go (Ok u) known =
+        let fits = operation_fits what ws (known refl).words in
+        record {
+          actions = actions what ws;
+          micros = micros what ws;
+          within = operation_within port what ws;
+          of_actions = fits.of_actions;
+          of_micros = fits.of_micros;
+        }

@@ -1,0 +1,137 @@
+-- What a step and a run come to
+use Rattle.hardware.specs.Talk.{Talk, ask, end, Reply}
+use Rattle.std.proofs.Common.{◌≡◌, ℕ, suc, ◌+◌, ◌-◌, ◌<◌, ◌≤◌, true, false, List, [], ◌∷◌, ◌++◌, length, get_or, take, drop, set, sym, refl, ap, ◌∙◌, add-zero, add_assoc, add-suc, suc-add, zero-add, arith, length-drop, take-append-drop, length-take-le, drop-drop, le-ltb, lt-ltb}
+use lib.Seq.{sets, length-sets}
+use Rattle.hardware.specs.declared.Port.{Port}
+use Rattle.hardware.specs.declared.Action.{Action}
+use Rattle.drive.specs.Act.{uses, words, reply_for}
+use Rattle.drive.specs.Moves.{Tape, on_tape, Moves, stays, goes}
+use Rattle.calls.specs.Conversation.{Conv, gone, refuses, step_talk}
+use Rattle.reference.specs.Out.{Out}
+use Rattle.calls.specs.Run.{
+  Run,
+  Shown,
+  stopped,
+  run_talk,
+  after,
+  tape_of,
+  shown,
+  run_on,
+  run_into,
+  bad,
+  refused_run,
+  run_from,
+  run_all,
+}
+use Rattle.calls.specs.declared.Stop.TheVariants.{Done, AfterEnd, BadReply, NoReply, NoRoom}
+
+-- a step of a conversation that asks for an action
+module _ (c : Conv) (kind value : ℕ) {a : Action} {k : Reply → Talk Out} (e : c.talk ≡ ask a k) where
+  pub step_refused : refuses a kind ≡ true → record { stop = BadReply; to = c } ≡ step_talk c kind value
+  step_refused h = rw (e, h)
+
+  pub step_done : {r : Reply} {to : Conv} → refuses a kind ≡ false → reply_for a (kind ∷ value ∷ []) ≡ r → to ≡ gone c a (k r) → record { stop = Done; to = to } ≡ step_talk c kind value
+  step_done h er eto = rw (e, eto, ← er, h)
+
+-- the script's check, two words at a time
+pub bad_short : (rs : List ℕ) → 0 < length rs → length rs < 2 → bad rs ≡ true
+bad_short [] h k = absurd (omega (arith, h))
+bad_short (kind ∷ []) h k = refl
+bad_short (kind ∷ value ∷ rs) h k = absurd (omega (arith, k))
+
+pub bad_first : (p q : List ℕ) → 2 ≤ length p → 1 < get_or p 0 0 → bad (p ++ q) ≡ true
+bad_first [] q h k = absurd (omega (arith, h))
+bad_first (kind ∷ []) q h k = absurd (omega (arith, h))
+bad_first (kind ∷ value ∷ p) q h k = simp (lt-ltb _ _ k)
+
+pub bad_then : (p q : List ℕ) → length p ≡ 2 → get_or p 0 0 ≤ 1 → bad (p ++ q) ≡ bad q
+bad_then [] q h k = absurd (omega (arith, h))
+bad_then (kind ∷ []) q h k = absurd (omega (arith, h))
+bad_then (kind ∷ value ∷ []) q h k = simp (le-ltb _ _ k)
+bad_then (kind ∷ value ∷ w ∷ p) q h k = absurd (omega (arith, h))
+
+-- how a run goes on, and where it stops
+
+run_one : (p : Port) (rs : List ℕ) (t : Tape) (a : Action) (f : Reply → Talk Out) → 3 ≤ length t.transcript - t.at → uses a ≤ length rs - t.used
+    → run_on p (ask a f) rs t ≡ run_on p (f (reply_for a (drop t.used rs))) rs (on_tape t a)
+unfolding run_on
+run_one p rs t a f h k =
+    let room : length (sets t.transcript t.at (words a)) - (t.at + 3) ≡ length t.transcript - t.at - 3 = simp length-sets (omega arith) in
+    simp (le-ltb _ _ h, length-drop, le-ltb _ _ k, drop-drop, room)
+
+run_moves : (p : Port) {rs : List ℕ} {m n : Talk Out} {t u : Tape} → Moves rs m t n u → run_on p n rs u ≡ run_on p m rs t
+run_moves p stays = refl
+run_moves p {rs} (goes {a} {k = f} {t = t} h k q) = run_moves p q ∙ sym (run_one p rs t a f h k)
+
+module _ (p : Port) {rs : List ℕ} {m₀ m : Talk Out} {t₀ t : Tape} (q : Moves rs m₀ t₀ m t) where
+  pub run_ended : {r : Out} → m ≡ end r → shown p t (stopped m Done) ≡ run_on p m₀ rs t₀
+  unfolding run_on
+  run_ended e =
+      let here : shown p t (stopped m Done) ≡ run_on p m rs t = rw e in
+      here ∙ run_moves p q
+
+  module _ {a : Action} {k : Reply → Talk Out} (e : m ≡ ask a k) where
+    pub run_full : length t.transcript - t.at < 3 → shown p t (stopped m NoRoom) ≡ run_on p m₀ rs t₀
+    unfolding run_on
+    run_full h =
+        let here : shown p t (stopped m NoRoom) ≡ run_on p m rs t = rw e (simp (lt-ltb _ _ h)) in
+        here ∙ run_moves p q
+
+    pub run_dry : 3 ≤ length t.transcript - t.at → length rs - t.used < uses a → shown p t (stopped m NoReply) ≡ run_on p m₀ rs t₀
+    unfolding run_on
+    run_dry h k' =
+        let here : shown p t (stopped m NoReply) ≡ run_on p m rs t = rw e (simp (le-ltb _ _ h, length-drop, lt-ltb _ _ k')) in
+        here ∙ run_moves p q
+
+-- a run into the part of a transcript that starts at its write place
+
+set_shift : (p s : List ℕ) (i a : ℕ) → set (p ++ s) (length p + i) a ≡ p ++ set s i a
+set_shift [] s i a = simp zero-add
+set_shift (x ∷ p) s i a = rw (suc-add (length p) i) (ap (λ (l : List ℕ). x ∷ l) (set_shift p s i a))
+
+sets_shift : (p s : List ℕ) (i : ℕ) (ws : List ℕ) → sets (p ++ s) (length p + i) ws ≡ p ++ sets s i ws
+sets_shift p s i [] = refl
+sets_shift p s i (a ∷ ws) = rw (set_shift p s i a, ← add-suc (length p) i) (sets_shift p (set s i a) (suc i) ws)
+
+abbrev moved : List ℕ → Tape → Tape
+moved p t =
+    record {
+      actions = t.actions;
+      micros = t.micros;
+      transcript = p ++ t.transcript;
+      at = length p + t.at;
+      used = t.used;
+    }
+
+after_moved : (p : List ℕ) (t : Tape) (done : List Action) → after (moved p t) done ≡ moved p (after t done)
+after_moved p t [] = refl
+after_moved p t (a ∷ done) =
+    rw (sets_shift p t.transcript t.at (words a), add_assoc (length p) t.at 3) (after_moved p (on_tape t a) done)
+
+abbrev lifted : List ℕ → Shown → Shown
+lifted p s = record { stop = s.stop; port = s.port; talk = s.talk; tape = moved p s.tape }
+
+pub run_part : (c : Conv) (rs t : List ℕ) (at : ℕ) → at ≤ length t → run_into c rs t at 0 ≡ lifted (take at t) (run_into c rs (drop at t) 0 0)
+unfolding run_on
+run_part c rs t at h =
+    let room : length (drop at t) - 0 ≡ length t - at = simp length-drop (omega arith) in
+    let run : Run Out = run_talk c.talk rs (length t - at) in
+    rw (room, ← after_moved (take at t) (tape_of c (drop at t) 0 0) run.done, take-append-drop at t, length-take-le at t h, add-zero at)
+
+-- the checks of a run
+
+module _ (c : Conv) (rs t : List ℕ) (at : ℕ) where
+  pub all_ended : {r : Out} → c.talk ≡ end r → refused_run AfterEnd c t at ≡ run_all c rs t at
+  all_ended e = ap (λ (x : Talk Out). run_from x c rs t at) (sym e)
+
+  module _ {a : Action} {k : Reply → Talk Out} (e : c.talk ≡ ask a k) where
+    pub all_bad : bad rs ≡ true → refused_run BadReply c t at ≡ run_all c rs t at
+    all_bad b = rw (e, b)
+
+    pub all_run : bad rs ≡ false → run_into c rs t at 0 ≡ run_all c rs t at
+    all_run b = rw (e, b)
+
+    pub all_full : bad rs ≡ false → length t < at → refused_run NoRoom c t at ≡ run_all c rs t at
+    all_full b h =
+        let room : length t - at < 3 = omega arith in
+        run_full c.port stays e room ∙ all_run b

@@ -1,0 +1,192 @@
+//! The operations by their names: how the arguments of each are read, and which function of the Rust it is.
+//!
+//! Unreadable are an unknown name, a wrong number of words, a word that is not eight digits, a truth value or the mark of an
+//! option above 1, a place that the enum lacks, and more than 16 bits where 16 are meant. An address above 31 is refused and
+//! not unreadable, of any size.
+use crate::answers::Words;
+use crate::hw::{self, hostif, mdio, sync, x552, x553, Error, Family, Port};
+use crate::lines::{self, Arguments};
+use crate::talk::Talk;
+
+/// What came of an operation, and what it leaves to its caller beside that: the words of a host block, or of a watch.
+pub struct Done {
+    pub answer: Result<Vec<u32>, Error<u32>>,
+    pub left: Option<Vec<u32>>,
+}
+
+pub struct Operation {
+    /// Of the PHY and of the device in it; 0 where it has none.
+    pub addresses: [u32; 2],
+    /// The words of its host block.
+    pub block: usize,
+    pub run: Box<dyn FnOnce(&mut Talk, Port) -> Done>,
+}
+
+impl Operation {
+    fn addressed(self, phy: u32, device: u32) -> Operation {
+        Operation { addresses: [phy, device], ..self }
+    }
+}
+
+/// An operation that leaves nothing beside its answer.
+fn does<T: Words>(run: impl FnOnce(&mut Talk, Port) -> Result<T, Error<u32>> + 'static) -> Operation {
+    let run = |talk: &mut Talk, port| Done { answer: run(talk, port).map(|answer| answer.words()), left: None };
+    Operation { addresses: [0, 0], block: 0, run: Box::new(run) }
+}
+
+type Group = fn(&[u8], &mut Arguments) -> Option<Operation>;
+const GROUPS: [Group; 6] = [of_port, of_locks, of_firmware, of_phy, of_phy_register, of_kr];
+
+/// The operation of the second line.
+pub fn read(line: &[u8]) -> Option<Operation> {
+    let line = lines::words(line);
+    let (name, rest) = line.split_first()?;
+    let words = rest.iter().map(|word| lines::word(word)).collect::<Option<Vec<u32>>>()?;
+    GROUPS.iter().find_map(|group| {
+        let mut arguments = Arguments::new(&words);
+        group(name, &mut arguments).filter(|_| arguments.is_empty())
+    })
+}
+
+fn of_port(name: &[u8], a: &mut Arguments) -> Option<Operation> {
+    Some(match name {
+        b"veto" => does(|talk, _| hw::veto(talk)),
+        b"link" => does(|talk, port| hw::link(talk, port.family)),
+        b"after_reset" => does(|talk, port| match port.family {
+            Family::X553 => x553::after_reset(talk, port),
+            _ => x552::after_reset(talk, port),
+        }),
+        b"bringup" => bringup(a.truth()?),
+        b"poll" => {
+            let (phy, place, forced) = (a.word()?, a.truth()?, a.option(Arguments::half)?);
+            let internal = if place { x552::Internal::Kr } else { x552::Internal::Ixfi };
+            poll(phy, internal, forced, a.word()?)
+        }
+        _ => return None,
+    })
+}
+
+/// The family's own two steps, with nothing done between them.
+fn bringup(veto: bool) -> Operation {
+    does(move |talk, port| match port.family {
+        Family::X553 => {
+            let prepared = x553::prepare(talk, port, veto)?;
+            x553::setup(talk, port, veto, prepared).map(|setup| setup.words())
+        }
+        _ => {
+            let prepared = x552::prepare(talk, port, veto)?;
+            x552::setup(talk, port, veto, prepared).map(|setup| setup.words())
+        }
+    })
+}
+
+fn poll(phy: u32, internal: x552::Internal, forced: Option<u16>, reforced: u32) -> Operation {
+    let run = move |talk: &mut Talk, port| {
+        let mut watch = x552::Watch { phy: phy as u8, internal, forced, reforced };
+        let copper = watch.poll(talk, port);
+        let left = (watch.forced, watch.reforced).words();
+        Done { answer: copper.map(|copper| [copper.words(), left.clone()].concat()), left: Some(left) }
+    };
+    Operation { addresses: [phy, 0], block: 0, run: Box::new(run) }
+}
+
+fn of_locks(name: &[u8], a: &mut Arguments) -> Option<Operation> {
+    let mask = a.word()?;
+    Some(match name {
+        b"acquire" => does(move |talk, port| sync::acquire(talk, port, mask)),
+        b"release" => does(move |talk, port| sync::release(talk, port, mask)),
+        _ => return None,
+    })
+}
+
+fn of_firmware(name: &[u8], a: &mut Arguments) -> Option<Operation> {
+    Some(match name {
+        b"command" => command(a.rest()),
+        b"token" => {
+            let take = a.truth()?;
+            does(move |talk, port| hostif::token(talk, port, take))
+        }
+        b"phy_activity" => {
+            let (activity, data) = (a.half()?, [a.word()?, a.word()?, a.word()?, a.word()?]);
+            does(move |talk, port| hostif::phy_activity(talk, port, activity, data))
+        }
+        b"nvm_word" => {
+            let word = a.half()?;
+            does(move |talk, port| x552::nvm_word(talk, port, word))
+        }
+        _ => return None,
+    })
+}
+
+fn command(mut block: Vec<u32>) -> Operation {
+    let length = block.len();
+    let run = move |talk: &mut Talk, port| {
+        let status = hostif::command(talk, port, &mut block);
+        Done { answer: status.map(|status| [status.words(), block.clone()].concat()), left: Some(block) }
+    };
+    Operation { addresses: [0, 0], block: length, run: Box::new(run) }
+}
+
+/// What is done with a PHY, or to find one.
+fn of_phy(name: &[u8], a: &mut Arguments) -> Option<Operation> {
+    if name == b"scan" { return Some(does(|talk, port| mdio::scan(talk, port))) }
+    let address = a.word()?;
+    let phy = address as u8;
+    let operation = match name {
+        b"probe" => does(move |talk, port| mdio::probe(talk, port, phy)),
+        b"abilities" => does(move |talk, port| mdio::abilities(talk, port, phy)),
+        b"an_link" => does(move |talk, port| mdio::an_link(talk, port, phy)),
+        b"reset" => {
+            let is_x557 = a.truth()?;
+            does(move |talk, port| mdio::reset(talk, port, phy, is_x557))
+        }
+        b"advertise" => {
+            let speeds = mdio::Speeds { g10: a.truth()?, g1: a.truth()?, m100: a.truth()? };
+            let (nbase, veto) = (a.option(Arguments::truth)?, a.truth()?);
+            does(move |talk, port| mdio::advertise(talk, port, phy, speeds, nbase, veto))
+        }
+        _ => return None,
+    };
+    Some(operation.addressed(address, 0))
+}
+
+fn of_phy_register(name: &[u8], a: &mut Arguments) -> Option<Operation> {
+    let addresses = (a.word()?, a.word()?);
+    let (phy, device, register) = (addresses.0 as u8, addresses.1 as u8, a.half()?);
+    let operation = match name {
+        b"read_reg" => does(move |talk, port| mdio::read_reg(talk, port, phy, device, register)),
+        b"write_reg" => {
+            let value = a.half()?;
+            does(move |talk, port| mdio::write_reg(talk, port, phy, device, register, value))
+        }
+        b"modify" => {
+            let (keep, set) = (a.half()?, a.half()?);
+            does(move |talk, port| mdio::modify(talk, port, phy, device, register, |old| old & keep | set))
+        }
+        _ => return None,
+    };
+    Some(operation.addressed(addresses.0, addresses.1))
+}
+
+fn of_kr(name: &[u8], a: &mut Arguments) -> Option<Operation> {
+    Some(match name {
+        b"kr_read" => {
+            let address = a.word()?;
+            does(move |talk, port| x552::kr_read(talk, port, address))
+        }
+        b"kr_write" => {
+            let (address, value) = (a.word()?, a.word()?);
+            does(move |talk, port| x552::kr_write(talk, port, address, value))
+        }
+        b"kr_modify" => {
+            let (address, keep, set) = (a.word()?, a.word()?, a.word()?);
+            does(move |talk, port| x552::kr_modify(talk, port, address, |old| old & keep | set))
+        }
+        b"restart_an" => does(|talk, port| x552::restart_an(talk, port)),
+        b"kr_autoneg" => {
+            let (kr, kx) = (a.truth()?, a.truth()?);
+            does(move |talk, port| x552::kr_autoneg(talk, port, kr, kx))
+        }
+        _ => return None,
+    })
+}
