@@ -11,8 +11,8 @@
  *
  * Numbers of a call: 0 it went well; 20 lan above 1, 21 a fiber device, 22 a PHY or device address above 31, 23 a host block
  * above 16 words; 24 the conversation has ended; 25 a reply's kind above 1, or in a run an odd number of reply words; 26 no reply
- * left, 27 no room for three words (both stop a run, which goes on from what it gives back); 28 no such family, device or
- * operation, or arguments that are not the operation's; 29 words that are no conversation; 30 it has not ended. A call that is
+ * left, 27 no room for three words (both stop a run, which goes on from what it gives back); 100 no such family, device or
+ * operation, or arguments that are not the operation's; 101 words that are no conversation; 102 it has not ended. A call that is
  * turned away changes nothing.
  *
  * No pointer may be null, also where its length is 0, and the two buffers of a run do not overlap.
@@ -67,7 +67,7 @@ mansruoy_asked mansruoy_action(mansruoy_conversation c);
 /* The action is done: kind 0 and the value read (anything after a write or a wait), or kind 1 and the failure's code. */
 mansruoy_stepped mansruoy_step(mansruoy_conversation c, uint32_t kind, uint32_t value);
 
-/* The answer; 30 while it runs. */
+/* The answer; 102 while it runs. */
 mansruoy_answered mansruoy_answer(mansruoy_conversation c);
 
 /* Many actions at once: replies are two words each (kind, value), none for a wait; each action is written to the transcript as three

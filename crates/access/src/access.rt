@@ -60,8 +60,8 @@ pub struct Begun {
     pub access: Access,
 }
 
-// How an access ends, with a word, and an operation: the answer, and how many words of the host block belong to it. The word of
-// an access that gives nothing is 0.
+// The end of an access, whose answer is a word (0 where it gives nothing), or of an operation: the answer, and how many words of
+// the host block belong to it.
 #[derive(Clone, Copy)]
 pub struct Ended<A> {
     pub answer: Result<A, Error>,

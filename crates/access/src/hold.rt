@@ -15,7 +15,7 @@ use hostif::command::Command;
 use hostif::token::Token;
 use sync::sync::Sync;
 
-// What acquire or release is given, at each reply too.
+// What acquire or release is given to begin with, and again at each reply.
 #[derive(Clone, Copy)]
 pub struct HoldCall {
     pub port: Port,

@@ -67,6 +67,38 @@ impl Register {
     pub const AN: u32 = 7;
 
     pub const VENDOR: u32 = 0x1e;
+
+    // Registers of every device.
+    pub const CONTROL: u16 = 0;
+
+    pub const STATUS: u16 = 1;
+
+    // CONTROL: the device is reset.
+    pub const RESET: u16 = 0x8000;
+
+    // Of PMA: the identifier's halves, the speeds, and the vendor's alarms.
+    pub const ID_1: u16 = 2;
+
+    pub const ID_2: u16 = 3;
+
+    pub const SPEEDS: u16 = 4;
+
+    pub const TX_VENDOR_ALARMS_3: u16 = 0xcc02;
+
+    // TX_VENDOR_ALARMS_3: the bits that tell of a reset.
+    pub const RESET_DONE: u32 = 3;
+
+    // Of AN: what is advertised at 100 megabits and at 10 gigabits, and at the vendor's 1, 2.5 and 5 gigabits; the link as seen.
+    pub const ADVERTISE_100: u16 = 0x10;
+
+    pub const ADVERTISE_10G: u16 = 0x20;
+
+    pub const ADVERTISE_VENDOR: u16 = 0xc400;
+
+    pub const VENDOR_STATUS: u16 = 0xc800;
+
+    // Of VENDOR: GLOBAL_RES_PR_10.
+    pub const GLOBAL_RES: u16 = 0xc479;
 }
 
 impl Change {
@@ -84,6 +116,21 @@ impl Change {
     pub const DSP_TXFFE_STATE_5: u32 = 0x4638;
 
     pub const TX_COEFF_CTRL_1: u32 = 0x5520;
+
+    // LINK_CTRL_1: AN_ENABLE and FORCE_SPEED, which SGMII clears.
+    pub const AN_AND_SPEED: u32 = 0x2000_0700;
+
+    // LINK_CTRL_1 and FLX: the restart of auto-negotiation.
+    pub const RESTART: u32 = 0x8000_0000;
+
+    // FLX: AN and SPEED, which SGMII clears.
+    pub const FLX_AN_AND_SPEED: u32 = 0x7800_0000;
+
+    // SGMII_CTRL: forced to 10 and 100 megabits.
+    pub const FORCE_10_AND_100: u32 = 0x8_1000;
+
+    // DSP_TXFFE_STATE_4 and 5: adapted by training.
+    pub const ADAPT: u32 = 0x1_8040;
 
     // The bits to clear, and those to set.
     pub fn of(port0: u32, clear: u32, set: u32) -> Change

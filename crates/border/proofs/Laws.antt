@@ -13,10 +13,7 @@ use Rattle.hardware.specs.declared.Step.{Step}
 use Rattle.access.specs.declared.access.Ended.{Ended}
 use Rattle.answers.specs.declared.Value.{Value}
 use Rattle.packed.proofs.Width.Hardware.{family_length}
-use Rattle.calls.specs.Conversation.{number}
 use Rattle.conversation.specs.declared.conversation.Conversation.{Conversation}
-use Rattle.calls.specs.declared.Stop.{Stop}
-use Rattle.calls.specs.declared.Stop.TheVariants as stop
 use Rattle.started.specs.declared.operation.Op.{Op}
 use Rattle.packed.specs.Started.{words_place, get_place}
 use Rattle.border.specs.Held.{words_of}
@@ -45,11 +42,3 @@ error_number_lem Lan = refl
 error_number_lem Fiber = refl
 error_number_lem Address = refl
 error_number_lem Block = refl
-
--- and no way to stop the number 29
-pub stop_number : (s : Stop) → eqb (number s) 29 ≡ false
-stop_number stop.Done = refl
-stop_number stop.AfterEnd = refl
-stop_number stop.BadReply = refl
-stop_number stop.NoReply = refl
-stop_number stop.NoRoom = refl

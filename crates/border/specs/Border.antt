@@ -1,12 +1,16 @@
 -- What a call from C comes to
-use Rattle.std.specs.Prelude.{ℕ, List, [], eqb, length, take, replicate, Option, Some, None, Ok, Err}
+use Rattle.std.specs.Prelude.{ℕ, Bool, ◌&&◌, ◌||◌, List, [], eqb, length, take, replicate, Option, Some, None, Ok, Err}
 use Rattle.hardware.specs.Numbers as error
+use Rattle.hardware.specs.Numbers.{stop_number, misuse_number}
+use Rattle.hardware.specs.declared.Misuse.TheVariants.{Unknown, NotHeld, NotEnded}
+use Rattle.hardware.specs.declared.Stop.{Stop}
+use Rattle.hardware.specs.declared.Stop.TheVariants.{Done, AfterEnd, BadReply, NoReply, NoRoom}
 use Rattle.hardware.specs.Talk.{Talk, ask, end, Res, pick}
 use Rattle.hardware.specs.declared.Port.{Port}
 use Rattle.answers.specs.Fields.{value}
 use Rattle.answers.specs.declared.Value.{Value}
 use Rattle.drive.specs.Act as act
-use Rattle.calls.specs.Conversation.{Conv, Step, begun, number, step_talk}
+use Rattle.calls.specs.Conversation.{Conv, Step, begun, step_talk}
 use Rattle.conversation.specs.Conversation.{conv_of}
 use Rattle.operations.specs.Addresses.{refused}
 use Rattle.reference.specs.Out.{Out}
@@ -41,33 +45,33 @@ opened (Ok u) c = went c
 unfoldable pub opens : Port → Operation → List ℕ → Outcome
 opens p what ws = opened (refused p what ws) (begun p what ws)
 
--- 28 for a port or an operation that is none, or arguments that are not the operation's
+-- 100 for a port or an operation that is none, or arguments that are not the operation's
 abbrev pub begins_line : Port → Line → List ℕ → Outcome
-begins_line p None args = stayed 28 nothing
+begins_line p None args = stayed (misuse_number Unknown) nothing
 begins_line p (Some (what, n)) args = opens p what (take n args)
 
 abbrev pub begins : Option Port → Line → List ℕ → Outcome
-begins None l args = stayed 28 nothing
+begins None l args = stayed (misuse_number Unknown) nothing
 begins (Some p) l args = begins_line p l args
 
 -- a step's number, and the conversation where it is 0
 abbrev pub stepped : Step → Held → Outcome
-stepped s c = pick (eqb (number s.stop) 0) (went s.to) (stayed (number s.stop) c)
+stepped s c = pick (eqb (stop_number s.stop) 0) (went s.to) (stayed (stop_number s.stop) c)
 
--- 29 for words that are no conversation
+-- 101 for words that are no conversation
 unfoldable pub steps : Held → ℕ → ℕ → Outcome
-steps c kind v = pick (is_held c) (stepped (step_talk (conv_of (held_by c)) kind v) c) (stayed 29 c)
+steps c kind v = pick (is_held c) (stepped (step_talk (conv_of (held_by c)) kind v) c) (stayed (misuse_number NotHeld) c)
 
 abbrev pub none : ℕ → Asked
 none n = record { number = n; kind = 0; register = 0; value = 0 }
 
 -- 24 at the end
 abbrev pub asking : Talk Out → Asked
-asking (end r) = none 24
+asking (end r) = none (stop_number AfterEnd)
 asking (ask a k) = record { number = 0; kind = act.kind a; register = act.register a; value = act.value a }
 
 unfoldable pub asks : Held → Asked
-asks c = pick (is_held c) (asking (conv_of (held_by c)).talk) (none 29)
+asks c = pick (is_held c) (asking (conv_of (held_by c)).talk) (none (misuse_number NotHeld))
 
 -- a call's number, the error's number or 0, how many words the answer has and those words, and the conversation's counts
 pub record Told : Type 0 where
@@ -99,30 +103,43 @@ abbrev pub answer : Res Value → ℕ → ℕ → Told
 answer (Ok v) actions micros = saying 0 (value v) actions micros
 answer (Err e) actions micros = saying (error.number e) (error.values e) actions micros
 
--- 30 before the end
+-- 102 before the end
 abbrev pub answering : Talk Out → ℕ → ℕ → Told
 answering (end r) actions micros = answer r.0 actions micros
-answering (ask a k) actions micros = no_answer 30 actions micros
+answering (ask a k) actions micros = no_answer (misuse_number NotEnded) actions micros
 
 abbrev pub answers_of : Conv → Told
 answers_of c = answering c.talk c.actions c.micros
 
 unfoldable pub answers : Held → Told
-answers c = pick (is_held c) (answers_of (conv_of (held_by c))) (no_answer 29 0 0)
+answers c = pick (is_held c) (answers_of (conv_of (held_by c))) (no_answer (misuse_number NotHeld) 0 0)
 
--- a run went so far, or nothing was run
+-- a run went so far; or nothing was run, and the words come back unread with the number, as do the transcript and the place
 pub data Run : Type 0 where
   ran : ℕ → Conv → Tape → Run
-  kept : Held → List ℕ → ℕ → ℕ → Run
+  kept : Ran → List ℕ → Run
+
+-- 26 and 27 too are runs that went so far
+abbrev pub went_on : ℕ → Bool
+went_on n = eqb n 0 || eqb n (stop_number NoReply) || eqb n (stop_number NoRoom)
 
 unfoldable pub ran_of : Ran → List ℕ → Run
 ran_of r t =
-    pick (eqb r.number 29) (kept r.to t r.at r.used)
-    (pick (is_held r.to) (ran r.number (conv_of (held_by r.to)) (tape_of (conv_of (held_by r.to)) t r.at r.used))
-    (kept r.to t r.at r.used))
+    pick (went_on r.number && is_held r.to)
+    (ran r.number (conv_of (held_by r.to)) (tape_of (conv_of (held_by r.to)) t r.at r.used))
+    (kept r t)
 
-abbrev pub ran_by : Shown → Run
-ran_by s = ran (number s.stop) (left s) s.tape
+abbrev pub not_run : ℕ → Held → ℕ → Ran
+not_run n c at = record { number = n; to = c; at = at; used = 0 }
+
+-- what was run, or 24 and 25, which leave the very words
+abbrev pub ran_by : Shown → Stop → Held → List ℕ → ℕ → Run
+ran_by s AfterEnd c t at = kept (not_run (stop_number AfterEnd) c at) t
+ran_by s BadReply c t at = kept (not_run (stop_number BadReply) c at) t
+ran_by s stop c t at = ran (stop_number stop) (left s) s.tape
+
+abbrev pub ran_as : Shown → Held → List ℕ → ℕ → Run
+ran_as s c t at = ran_by s s.stop c t at
 
 unfoldable pub runs : Held → List ℕ → List ℕ → ℕ → Run
-runs c rs t at = pick (is_held c) (ran_by (run_all (conv_of (held_by c)) rs t at)) (kept c t at 0)
+runs c rs t at = pick (is_held c) (ran_as (run_all (conv_of (held_by c)) rs t at) c t at) (kept (not_run (misuse_number NotHeld) c at) t)

@@ -7,7 +7,9 @@ pub mod port;
 
 ghost use Rattle.std.specs.Prelude.{◌≡◌, take};
 ghost use Rattle.trace.specs.Operation.{by_name};
-ghost use Rattle.border.specs.Border.{stayed, nothing, outcome_of, begins, opens, steps, asks, none, answer, saying, no_answer, answers, answered_of, runs, ran_of};
+ghost use Rattle.hardware.specs.Numbers.{misuse_number};
+ghost use Rattle.hardware.specs.declared.Misuse.TheVariants.{Unknown};
+ghost use Rattle.border.specs.Border.{stayed, nothing, outcome_of, begins, opens, steps, asks, none, answer, saying, no_answer, answers, answered_of, not_run, runs, ran_of};
 ghost use Rattle.border.specs.Port.{port_of};
 
 use crate::held::{Held, hold, is_held, read_held};
@@ -17,7 +19,7 @@ use answers::fields::{Fields, error_fields, error_number, fields_of};
 use conversation::conversation::Conversation;
 use conversation::run::run;
 use drive::{kind_of, register_of, value_of};
-use hardware::{Error, Port, Step};
+use hardware::{Error, Misuse, Port, Step, Stop};
 use operations::Operation;
 use trace::operation::named;
 
@@ -94,10 +96,10 @@ fn begin_at(port: Port, what: Operation, arguments: &[u32], n: usize) -> Stepped
 // No such family, device or operation, or arguments that are not the operation's.
 #[tactic(auto, unfolding(crate::specs::Border::outcome_of))]
 fn none_begun() -> Stepped
-    ensures { outcome_of result.number result.to ≡ stayed 28 nothing }
+    ensures { outcome_of result.number result.to ≡ stayed (misuse_number Unknown) nothing }
 {
     Stepped {
-        number: 28,
+        number: Misuse::Unknown.number(),
         to: NOTHING,
     }
 }
@@ -132,10 +134,10 @@ pub fn mansruoy_action(c: Held) -> Asked
     ensures { result ≡ asks c }
 {
     if !is_held(c) {
-        return no_action(29);
+        return no_action(Misuse::NotHeld.number());
     }
     match read_held(c).place {
-        Step::Done(_) => no_action(24),
+        Step::Done(_) => no_action(Stop::AfterEnd.number()),
         Step::Ask(a, _) => Asked {
             number: 0,
             kind: kind_of(a),
@@ -151,7 +153,10 @@ pub fn mansruoy_step(c: Held, kind: u32, value: u32) -> Stepped
     ensures { outcome_of result.number result.to ≡ steps c kind value }
 {
     if !is_held(c) {
-        return Stepped { number: 29, to: c };
+        return Stepped {
+            number: Misuse::NotHeld.number(),
+            to: c,
+        };
     }
     let s = read_held(c).step(kind, value);
     match s.stop.number() {
@@ -204,33 +209,43 @@ pub fn mansruoy_answer(c: Held) -> Answered
     ensures { answered_of result ≡ answers c }
 {
     if !is_held(c) {
-        return no_answer(29, 0, 0);
+        return no_answer(Misuse::NotHeld.number(), 0, 0);
     }
     let of = read_held(c);
     match of.place {
-        Step::Ask(_, _) => no_answer(30, of.actions, of.micros),
+        Step::Ask(_, _) => no_answer(Misuse::NotEnded.number(), of.actions, of.micros),
         Step::Done(ended) => answer_words(ended.answer, of.actions, of.micros),
     }
 }
 
+// What a run that did nothing gives back: the very words, and the place.
+fn not_run(number: u32, c: Held, at: usize) -> Ran
+    ensures { result ≡ not_run number c at }
+{
+    Ran {
+        number,
+        to: c,
+        at,
+        used: 0,
+    }
+}
+
 // Runs a conversation over a script of replies, into a transcript from place `at` on.
-#[tactic(auto, using(crate::proofs::Laws::stop_number), unfolding(crate::specs::Border::runs, crate::specs::Border::ran_of))]
+#[tactic(auto, using(calls::proofs::Laws::ended_keeps, calls::proofs::Laws::bad_keeps), unfolding(crate::specs::Border::runs, crate::specs::Border::ran_of))]
 pub fn mansruoy_run(c: Held, replies: &[u32], transcript: &mut [u32], at: usize) -> Ran
     ensures { ran_of result transcript.new ≡ runs c replies.now transcript.old at }
 {
     if !is_held(c) {
-        return Ran {
-            number: 29,
-            to: c,
-            at,
-            used: 0,
-        };
+        return not_run(Misuse::NotHeld.number(), c, at);
     }
     let r = run(read_held(c), replies, transcript, at);
-    Ran {
-        number: r.stop.number(),
-        to: hold(r.to),
-        at: r.at,
-        used: r.used,
+    match r.stop {
+        Stop::AfterEnd | Stop::BadReply => not_run(r.stop.number(), c, at),
+        _ => Ran {
+            number: r.stop.number(),
+            to: hold(r.to),
+            at: r.at,
+            used: r.used,
+        },
     }
 }

@@ -163,7 +163,7 @@ impl Bringup {
         match got {
             Err(e) => Step::Done(Err(e)),
             Ok(sel) => {
-                if sel & 0x10_0000 == 0 {
+                if sel & Phy::SPEED_2_5G == 0 {
                     Bringup::vetoed(managed, Lane::Kr(kr))
                 } else {
                     Step::Done(Ok(Value::X553(Setup553::Kr2500 { sel })))

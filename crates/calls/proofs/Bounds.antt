@@ -1,6 +1,6 @@
--- How long each operation is at the most
+-- How long each conversation that was begun is at the most
 use Rattle.hardware.specs.Talk.{Talk, Res}
-use Rattle.std.proofs.Common.{◌≡◌, ℕ, ◌^◌, ◌<◌, List, length, refl, arith, Err, Ok}
+use Rattle.std.proofs.Common.{◌≡◌, ℕ, ◌^◌, ◌<◌, ◌≤◌, List, length, refl, arith, Err, Ok}
 use Rattle.hardware.specs.Bound.{Within, at_end}
 use Rattle.hardware.specs.declared.Port.{Port}
 use Rattle.hardware.proofs.Refusal.{Taken, taken}
@@ -12,26 +12,40 @@ use Rattle.calls.specs.Conversation.{started, begun}
 use Rattle.reference.specs.Out.{Out}
 use Rattle.operations.specs.declared.Operation.{Operation}
 
--- a bound of a talk that does not come near 2 ^ 64
-pub record Short (t : Talk Out) : Type 0 where
-  pub actions : ℕ
-  pub micros : ℕ
-  pub within : Within t actions micros
-  pub of_actions : actions < 2 ^ 63
-  pub of_micros : micros < 2 ^ 63
+-- a bound of t of at most x actions and y microseconds, which does not come near 2 ^ 64
+pub record Short (t : Talk Out) (x y : ℕ) : Type 0 where
+  pub n : ℕ
+  pub m : ℕ
+  pub within : Within t n m
+  pub of_actions : n ≤ x
+  pub of_micros : m ≤ y
+  pub few : n < 2 ^ 63
+  pub brief : m < 2 ^ 63
 
 -- everything that `begin` makes has one
-pub short_begun : (port : Port) (what : Operation) (ws : List ℕ) → Short (begun port what ws).talk
+pub short_begun : (port : Port) (what : Operation) (ws : List ℕ) → Short (begun port what ws).talk (actions what ws) (micros what ws)
 short_begun port what ws = go (refused port what ws) (taken port (addresses what).0 (addresses what).1 (length ws))
   where
-    go : (r : Res (Unit {0})) → (r ≡ Ok tt → Taken port (addresses what).0 (addresses what).1 (length ws)) → Short (started (operation port what ws) r)
-    go (Err e) known = record { actions = 0; micros = 0; within = at_end; of_actions = omega arith; of_micros = omega arith }
+    go : (r : Res (Unit {0})) → (r ≡ Ok tt → Taken port (addresses what).0 (addresses what).1 (length ws))
+        → Short (started (operation port what ws) r) (actions what ws) (micros what ws)
+    go (Err e) known =
+        record {
+          n = 0;
+          m = 0;
+          within = at_end;
+          of_actions = omega arith;
+          of_micros = omega arith;
+          few = omega arith;
+          brief = omega arith;
+        }
     go (Ok u) known =
         let fits = operation_fits what ws (known refl).words in
         record {
-          actions = actions what ws;
-          micros = micros what ws;
+          n = actions what ws;
+          m = micros what ws;
           within = operation_within port what ws;
-          of_actions = fits.of_actions;
-          of_micros = fits.of_micros;
+          of_actions = omega arith;
+          of_micros = omega arith;
+          few = fits.of_actions;
+          brief = fits.of_micros;
         }

@@ -1,17 +1,21 @@
 -- What a step and a run come to
-use Rattle.hardware.specs.Talk.{Talk, ask, end, Reply}
-use Rattle.std.proofs.Common.{◌≡◌, ℕ, suc, ◌+◌, ◌-◌, ◌<◌, ◌≤◌, true, false, List, [], ◌∷◌, ◌++◌, length, get_or, take, drop, set, sym, refl, ap, ◌∙◌, add-zero, add_assoc, add-suc, suc-add, zero-add, arith, length-drop, take-append-drop, length-take-le, drop-drop, le-ltb, lt-ltb}
+use Rattle.hardware.specs.Talk.{Talk, ask, end, pick, Reply}
+use Rattle.std.proofs.Common.{◌≡◌, ℕ, suc, ◌+◌, ◌-◌, ◌<◌, ◌≤◌, Bool, true, false, nat_lt, true≢false, List, [], ◌∷◌, ◌++◌, length, get_or, take, drop, set, sym, refl, ap, ◌∙◌, add-zero, add_assoc, add-suc, suc-add, zero-add, arith, length-drop, take-append-drop, length-take-le, drop-drop, le-ltb, lt-ltb}
 use lib.Seq.{sets, length-sets}
 use Rattle.hardware.specs.declared.Port.{Port}
 use Rattle.hardware.specs.declared.Action.{Action}
 use Rattle.drive.specs.Act.{uses, words, reply_for}
-use Rattle.drive.specs.Moves.{Tape, on_tape, Moves, stays, goes}
-use Rattle.calls.specs.Conversation.{Conv, gone, refuses, step_talk}
+use Rattle.std.specs.Prelude.{Result, Err}
+use Rattle.hardware.specs.declared.Stop.{Stop}
+use Rattle.drive.specs.Moves.{Tape, on_tape, Moves, stays, goes, Acts, ActsBy}
+use Rattle.drive.proofs.Laws.{by}
+use Rattle.calls.specs.Conversation.{Conv, conv, gone, refuses, step_talk}
 use Rattle.reference.specs.Out.{Out}
 use Rattle.calls.specs.Run.{
   Run,
   Shown,
   stopped,
+  before,
   run_talk,
   after,
   tape_of,
@@ -23,7 +27,8 @@ use Rattle.calls.specs.Run.{
   run_from,
   run_all,
 }
-use Rattle.calls.specs.declared.Stop.TheVariants.{Done, AfterEnd, BadReply, NoReply, NoRoom}
+use Rattle.calls.specs.Session.{run_of}
+use Rattle.hardware.specs.declared.Stop.TheVariants.{Done, AfterEnd, BadReply, NoReply, NoRoom}
 
 -- a step of a conversation that asks for an action
 module _ (c : Conv) (kind value : ℕ) {a : Action} {k : Reply → Talk Out} (e : c.talk ≡ ask a k) where
@@ -83,6 +88,18 @@ module _ (p : Port) {rs : List ℕ} {m₀ m : Talk Out} {t₀ t : Tape} (q : Mov
         let here : shown p t (stopped m NoReply) ≡ run_on p m rs t = rw e (simp (le-ltb _ _ h, length-drop, lt-ltb _ _ k')) in
         here ∙ run_moves p q
 
+    -- where an action is short of room or of a reply
+    pub run_short : {t' : Tape} {r : Result Reply Stop} {s : Stop} → t.used ≤ length rs → Acts a rs t r t' → r ≡ Err s
+        → shown p t' (stopped m s) ≡ run_on p m₀ rs t₀
+    run_short {t'} {s = s} in_it acts is = go s (by acts is)
+      where
+        go : (s : Stop) → ActsBy a rs t (Err s) t' → shown p t' (stopped m s) ≡ run_on p m₀ rs t₀
+        go NoRoom (same, room) = ap (λ (x : Tape). shown p x (stopped m NoRoom)) same ∙ run_full room
+        go NoReply (same, why) = ap (λ (x : Tape). shown p x (stopped m NoReply)) same ∙ run_dry why.0 (why.1 in_it)
+        go Done (same, never) = absurd never
+        go AfterEnd (same, never) = absurd never
+        go BadReply (same, never) = absurd never
+
 -- a run into the part of a transcript that starts at its write place
 
 set_shift : (p s : List ℕ) (i a : ℕ) → set (p ++ s) (length p + i) a ≡ p ++ set s i a
@@ -135,3 +152,59 @@ module _ (c : Conv) (rs t : List ℕ) (at : ℕ) where
     all_full b h =
         let room : length t - at < 3 = omega arith in
         run_full c.port stays e room ∙ all_run b
+
+-- ---- a run that is refused leaves the transcript
+
+abbrev is_refusal : Stop → Bool
+is_refusal AfterEnd = true
+is_refusal BadReply = true
+is_refusal _ = false
+
+run_goes : {A : Type 0} (m : Talk A) (rs : List ℕ) (room : ℕ) → is_refusal (run_talk m rs room).stop ≡ false
+run_goes (end r) rs room = refl
+run_goes (ask a k) rs room = by_turn (nat_lt room 3) (nat_lt (length rs) (uses a)) (run_talk (k (reply_for a rs)) (drop (uses a) rs) (room - 3)) (run_goes (k (reply_for a rs)) (drop (uses a) rs) (room - 3))
+  where
+    by_turn : (full dry : Bool) (r : Run _) → is_refusal r.stop ≡ false
+        → is_refusal (pick full (stopped (ask a k) NoRoom) (pick dry (stopped (ask a k) NoReply) (before a r))).stop ≡ false
+    by_turn true dry r h = refl
+    by_turn false true r h = refl
+    by_turn false false r h = h
+
+module _ (c : Conv) (rs t : List ℕ) (at : ℕ) where
+  refused_keeps : is_refusal (run_all c rs t at).stop ≡ true → (run_all c rs t at).tape.transcript ≡ t
+  unfolding run_on
+  refused_keeps = by_talk c.talk (run_goes c.talk rs (length t - at))
+    where
+      by_bad : (b : Bool) → is_refusal (run_talk c.talk rs (length t - at)).stop ≡ false
+          → is_refusal (pick b (refused_run BadReply c t at) (run_into c rs t at 0)).stop ≡ true
+          → (pick b (refused_run BadReply c t at) (run_into c rs t at 0)).tape.transcript ≡ t
+      by_bad true h e = refl
+      by_bad false h e = absurd (true≢false (sym e ∙ h))
+
+      by_talk : (m : Talk Out) → is_refusal (run_talk c.talk rs (length t - at)).stop ≡ false → is_refusal (run_from m c rs t at).stop ≡ true
+          → (run_from m c rs t at).tape.transcript ≡ t
+      by_talk (end r) h e = refl
+      by_talk (ask a k) h e = by_bad (bad rs) h e
+
+  pub ended_keeps : (run_all c rs t at).stop ≡ AfterEnd → (run_all c rs t at).tape.transcript ≡ t
+  ended_keeps e = refused_keeps (ap is_refusal e)
+
+  pub bad_keeps : (run_all c rs t at).stop ≡ BadReply → (run_all c rs t at).tape.transcript ≡ t
+  bad_keeps e = refused_keeps (ap is_refusal e)
+
+-- the actions done, on the conversation's tape, say all that `run` shows
+pub all_shown : (c : Conv) (rs t : List ℕ) (at : ℕ)
+    → run_all c rs t at ≡ shown c.port (tape_of c t at 0) (run_of c.talk rs (length t - at))
+unfolding run_on
+all_shown c rs t at = go c.talk
+  where
+    go : (u : Talk Out)
+        → run_all (conv c.port u c.actions c.micros) rs t at ≡ shown c.port (tape_of c t at 0) (run_of u rs (length t - at))
+    go (end r) = refl
+    go (ask a k) = go_bad (bad rs)
+      where
+        go_bad : (b : Bool)
+            → pick b (refused_run BadReply (conv c.port (ask a k) c.actions c.micros) t at) (run_into (conv c.port (ask a k) c.actions c.micros) rs t at 0)
+            ≡ shown c.port (tape_of c t at 0) (pick b (stopped (ask a k) BadReply) (run_talk (ask a k) rs (length t - at)))
+        go_bad true = refl
+        go_bad false = refl

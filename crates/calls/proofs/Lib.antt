@@ -1,4 +1,7 @@
 pub mod Laws
 pub mod Runs
 pub mod Bounds
+pub mod Counts
 pub mod Theorems
+pub mod Cases
+mod Examples

@@ -1,6 +1,6 @@
 -- A conversation: what it says from here on, and its counts
 use Rattle.hardware.specs.Talk.{Talk, ask, end, Res, pick}
-use Rattle.std.specs.Prelude.{ℕ, ◌+◌, ◌%◌, ◌^◌, Bool, false, List, [], ◌∷◌, length, ◌==◌, nat_lt, Err, Ok}
+use Rattle.std.specs.Prelude.{ℕ, ◌+◌, ◌%◌, ◌^◌, Bool, false, List, [], ◌∷◌, length, ◌==◌, nat_lt, Err, Ok, Option, None, Some}
 use Rattle.hardware.specs.Bound.{waited}
 use Rattle.hardware.specs.declared.Action.{Action}
 use Rattle.hardware.specs.declared.Port.{Port}
@@ -14,8 +14,8 @@ use Rattle.arguments.specs.declared.Left.{Left}
 use Rattle.arguments.specs.declared.Watch.{Watch}
 use Rattle.operations.specs.Addresses.{refused}
 use Rattle.operations.specs.declared.Operation.{Operation}
-use Rattle.calls.specs.declared.Stop.{Stop}
-use Rattle.calls.specs.declared.Stop.TheVariants as stop
+use Rattle.hardware.specs.declared.Stop.{Stop}
+use Rattle.hardware.specs.declared.Stop.TheVariants as stop
 
 pub record Conv : Type 0 where
   pub port : Port
@@ -43,14 +43,6 @@ begun port what ws = opening port (started (operation port what ws) (refused por
 abbrev pub gone : Conv → Action → Talk Out → Conv
 gone c a t = conv c.port t ((c.actions + 1) % 2 ^ 64) ((c.micros + waited a) % 2 ^ 64)
 
--- document 01's number of each way to stop
-abbrev pub number : Stop → ℕ
-number stop.Done = 0
-number stop.AfterEnd = 24
-number stop.BadReply = 25
-number stop.NoReply = 26
-number stop.NoRoom = 27
-
 -- a single step: how it stopped, and the conversation
 pub record Step : Type 0 where
   pub stop : Stop
@@ -69,6 +61,25 @@ step_on (ask a k) c kind value =
 
 abbrev pub step_talk : Conv → ℕ → ℕ → Step
 step_talk c kind value = step_on c.talk c kind value
+
+-- the action that is due, none after the end
+abbrev pub asked_of : Talk Out → Option Action
+asked_of (end r) = None
+asked_of (ask a k) = Some a
+
+-- what it has ended with, and its counts
+pub record Answer : Type 0 where
+  pub what : Res Value
+  pub actions : ℕ
+  pub micros : ℕ
+
+abbrev pub answer_at : Talk Out → Conv → Option Answer
+answer_at (end r) c = Some (record { what = r.0; actions = c.actions; micros = c.micros })
+answer_at (ask a k) c = None
+
+-- none while it still runs
+abbrev pub answer_of : Conv → Option Answer
+answer_of c = answer_at c.talk c
 
 -- a block's words go to a lent block of the same length; 23 for another, which is left as it was
 abbrev pub given : List ℕ → List ℕ → Res (Unit {0}) × List ℕ

@@ -1,2 +1,4 @@
 pub mod Conversation
 pub mod Run
+pub mod Session
+pub mod Cases

@@ -1,14 +1,14 @@
 -- A run over a script of replies, into a transcript
 use Rattle.hardware.specs.Talk.{Talk, ask, end, pick, Reply}
-use Rattle.std.specs.Prelude.{ℕ, ◌-◌, Bool, true, false, List, [], ◌∷◌, ◌++◌, length, drop, nat_lt}
+use Rattle.std.specs.Prelude.{ℕ, ◌-◌, Bool, true, false, List, [], ◌∷◌, length, drop, nat_lt}
 use Rattle.hardware.specs.declared.Action.{Action}
 use Rattle.hardware.specs.declared.Port.{Port}
 use Rattle.drive.specs.Act.{uses, reply_for}
 use Rattle.drive.specs.Moves.{Tape, on_tape}
 use Rattle.calls.specs.Conversation.{Conv}
 use Rattle.reference.specs.Out.{Out}
-use Rattle.calls.specs.declared.Stop.{Stop}
-use Rattle.calls.specs.declared.Stop.TheVariants.{Done, AfterEnd, BadReply, NoReply, NoRoom}
+use Rattle.hardware.specs.declared.Stop.{Stop}
+use Rattle.hardware.specs.declared.Stop.TheVariants.{Done, AfterEnd, BadReply, NoReply, NoRoom}
 
 -- a run: the actions that were done, in order, what is still to be said, and why it stopped
 pub record Run (A : Type 0) : Type 0 where
@@ -33,10 +33,6 @@ turn a t rs room go =
 abbrev pub run_talk : {A : Type 0} → Talk A → List ℕ → ℕ → Run A
 run_talk (end r) rs room = stopped (end r) Done
 run_talk (ask a k) rs room = turn a (ask a k) rs room (λ r. run_talk (k r) (drop (uses a) rs) (room - 3))
-
--- a run, and another that goes on from where it stopped
-abbrev pub joined : {A : Type 0} → Run A → Run A → Run A
-joined r s = record { done = r.done ++ s.done; talk = s.talk; stop = s.stop }
 
 -- what a run leaves behind on its tape
 abbrev pub after : Tape → List Action → Tape

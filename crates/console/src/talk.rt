@@ -2,9 +2,8 @@
 use crate::ahead::{Moved, ahead};
 use crate::ending::ended;
 use crate::turn::{Turned, turn};
-use calls::Stop;
 use conversation::conversation::Conversation;
-use hardware::Step;
+use hardware::{Step, Stop};
 use lines::listing::Line;
 use std::io;
 use std::io::{Read, Write};

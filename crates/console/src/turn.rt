@@ -2,9 +2,9 @@
 ghost use Rattle.conversation.specs.Conversation.{conv_of};
 ghost use Rattle.console.specs.Turn.{Turn};
 
-use calls::Stop;
 use conversation::conversation::Conversation;
 use conversation::run::run;
+use hardware::Stop;
 use lines::listing::{Line, action_line};
 
 // How the run stopped, and the conversation as it is then.

@@ -43,7 +43,7 @@ module _ (t : List ℕ) (at : ℕ) (h : at ≤ length t) where
 
   -- what the loop's caller makes of its answer, once the part that it lent is back
   pub run_lent : (c : Conv) (rs : List ℕ) (r : Ran) (part : List ℕ) → shown_of r part ≡ run_into c rs (take (length t - at) (drop at t)) 0 0
-      → shown_of (record { stop = r.stop; to = r.to; at = at + r.at; used = r.used }) (take at t ++ (part ++ drop (length t - at) (drop at t)))
+      → shown_of (record { stop = r.stop; to = r.to; actions = r.actions; micros = r.micros; at = at + r.at; used = r.used }) (take at t ++ (part ++ drop (length t - at) (drop at t)))
       ≡ run_into c rs t at 0
   run_lent c rs r part e =
       rw (

@@ -1,7 +1,8 @@
 -- What the code's conversation means
 use Rattle.std.specs.Prelude.{ℕ, List, ◌++◌, length, drop, replicate}
 use Rattle.started.specs.Operation.{told}
-use Rattle.calls.specs.Conversation.{Conv, conv, Step}
+use Rattle.calls.specs.Conversation.{Answer, Conv, conv, Step}
+use Rattle.conversation.specs.declared.conversation.Answer as code_answer
 use Rattle.conversation.specs.declared.conversation.Conversation as code
 use Rattle.conversation.specs.declared.conversation.Stepped.{Stepped}
 
@@ -10,6 +11,9 @@ conv_of c = conv c.port (told c.port c.place c.block) c.actions c.micros
 
 abbrev pub stepped_of : Stepped → Step
 stepped_of s = record { stop = s.stop; to = conv_of s.to }
+
+abbrev pub answer_as : code_answer.Answer → Answer
+answer_as a = record { what = a.what; actions = a.actions; micros = a.micros }
 
 -- the block's words, over 16 zeros
 abbrev pub padded : List ℕ → List ℕ

@@ -2,8 +2,9 @@
 ghost use Rattle.std.specs.Prelude.{◌≡◌, ◌≤◌, [], ◌∷◌, length, take, Err};
 ghost use Rattle.hardware.specs.Talk.{end};
 ghost use Rattle.drive.specs.Act.{reply_for};
-ghost use Rattle.calls.specs.Conversation.{gone, opening, begun, refuses, step_talk, given, handed_back, left_by, left_of, own_of};
-ghost use Rattle.conversation.specs.Conversation.{conv_of, padded, stepped_of};
+ghost use Rattle.std.specs.Option.{option_map};
+ghost use Rattle.calls.specs.Conversation.{answer_of, asked_of, gone, opening, begun, refuses, step_talk, given, handed_back, left_by, left_of, own_of};
+ghost use Rattle.conversation.specs.Conversation.{answer_as, conv_of, padded, stepped_of};
 ghost use Rattle.start.specs.First.{told_first};
 ghost use Rattle.started.specs.Operation.{resume_op, told};
 
@@ -11,9 +12,8 @@ use access::access::Ended;
 use after::After;
 use answers::Value;
 use arguments::{Left, Watch};
-use calls::Stop;
 use drive::{reply_of, uses_of, waited_of};
-use hardware::{Action, Error, Port, Reply, Step};
+use hardware::{Action, Error, Port, Reply, Step, Stop};
 use operations::Operation;
 use run_access::lent::Lent;
 use start::start::{First, start};
@@ -30,11 +30,22 @@ pub struct Conversation {
     pub micros: u64,
 }
 
-// What a step answers. Where it stopped with a number, the conversation is the one that was handed in.
+// What a step answers, with the counts that its conversation has then. Where it stopped with a number, the conversation is
+// the one that was handed in.
 #[derive(Clone, Copy)]
 pub struct Stepped {
     pub stop: Stop,
     pub to: Conversation,
+    pub actions: u64,
+    pub micros: u64,
+}
+
+// What a conversation has ended with, and the number of actions done and the sum of their waits.
+#[derive(Clone, Copy)]
+pub struct Answer {
+    pub what: Result<Value, Error>,
+    pub actions: u64,
+    pub micros: u64,
 }
 
 // The words of a block that is lent, then zeros.
@@ -152,9 +163,21 @@ impl Conversation {
         }
     }
 
+    fn stopped(self, stop: Stop) -> Stepped
+        ensures stands { stepped_of result ≡ record { stop = stop; to = conv_of self } }
+        ensures counts { (result.actions ≡ result.to.actions) × (result.micros ≡ result.to.micros) }
+    {
+        Stepped {
+            stop,
+            to: self,
+            actions: self.actions,
+            micros: self.micros,
+        }
+    }
+
     // The action is answered, and counted.
     #[tactic(auto, using(hardware::proofs::Laws::then_assoc))]
-    pub fn answered(self, a: Action, op: Op, reply: Reply) -> Conversation
+    fn answered(self, a: Action, op: Op, reply: Reply) -> Conversation
         ensures { conv_of result ≡ gone (conv_of self) a (resume_op self.port op reply self.block) }
     {
         let mut block = self.block;
@@ -171,26 +194,43 @@ impl Conversation {
     // One action is answered with a reply's two words.
     #[tactic(auto, using(crate::proofs::Laws::at_place, calls::proofs::Laws::step_refused, calls::proofs::Laws::step_done))]
     pub fn step(self, kind: u32, value: u32) -> Stepped
-        ensures { stepped_of result ≡ step_talk (conv_of self) kind value }
+        ensures stepped { stepped_of result ≡ step_talk (conv_of self) kind value }
+        ensures counts { (result.actions ≡ result.to.actions) × (result.micros ≡ result.to.micros) }
     {
         match self.place {
-            Step::Done(_) => Stepped {
-                stop: Stop::AfterEnd,
-                to: self,
-            },
+            Step::Done(_) => self.stopped(Stop::AfterEnd),
             Step::Ask(a, op) => {
                 if is_refused(a, kind) {
-                    Stepped {
-                        stop: Stop::BadReply,
-                        to: self,
-                    }
+                    self.stopped(Stop::BadReply)
                 } else {
-                    Stepped {
-                        stop: Stop::Done,
-                        to: self.answered(a, op, reply_to(a, kind, value)),
-                    }
+                    let to = self.answered(a, op, reply_to(a, kind, value));
+                    to.stopped(Stop::Done)
                 }
             }
+        }
+    }
+
+    // The action that is due, or nothing where the conversation has ended.
+    pub fn asked(self) -> Option<Action>
+        ensures { asked_of (conv_of self).talk ≡ result }
+    {
+        match self.place {
+            Step::Ask(a, _) => Some(a),
+            Step::Done(_) => None,
+        }
+    }
+
+    // What it has ended with, or nothing where it still runs.
+    pub fn answer(self) -> Option<Answer>
+        ensures { answer_of (conv_of self) ≡ option_map answer_as result }
+    {
+        match self.place {
+            Step::Ask(_, _) => None,
+            Step::Done(ended) => Some(Answer {
+                what: ended.answer,
+                actions: self.actions,
+                micros: self.micros,
+            }),
         }
     }
 

@@ -9,19 +9,20 @@ ghost use Rattle.conversation.specs.Run.{shown_of, reached_of};
 use crate::conversation::Conversation;
 use access::access::Ended;
 use answers::Value;
-use calls::Stop;
 use drive::{Host, act};
-use hardware::{Action, Port, Step};
+use hardware::{Action, Port, Step, Stop};
 use run_access::lent;
 use run_access::lent::Lent;
 use started::operation::Op;
 
-// What a run answers: why it stopped, the conversation, the next write place in the transcript, and how many reply words
-// it used. A caller stopped by 26 or 27 goes on from these.
+// What a run answers: why it stopped, the conversation and its counts, the next write place in the transcript, and how many
+// reply words it used. A caller stopped by 26 or 27 goes on from these.
 #[derive(Clone, Copy)]
 pub struct Ran {
     pub stop: Stop,
     pub to: Conversation,
+    pub actions: u64,
+    pub micros: u64,
     pub at: usize,
     pub used: usize,
 }
@@ -52,7 +53,7 @@ fn ahead(
 }
 
 // The run's loop: as far as accesses go by themselves, then one action, from where the last turn came.
-#[tactic(auto, using(drive::specs::Moves::stays, drive::proofs::Laws::act_short, drive::proofs::Laws::act_done, drive::proofs::Laws::then, drive::proofs::Laws::moves_less, drive::proofs::Laws::moves_within, calls::proofs::Laws::run_ended, calls::proofs::Laws::run_full, calls::proofs::Laws::run_dry))]
+#[tactic(auto, using(drive::specs::Moves::stays, drive::proofs::Laws::act_short, drive::proofs::Laws::act_done, drive::proofs::Laws::then, drive::proofs::Laws::moves_less, drive::proofs::Laws::moves_within, calls::proofs::Laws::run_ended, calls::proofs::Laws::run_short))]
 fn run_from(
     from: Step<Action, Op, Ended<Value>>,
     port: Port,
@@ -77,17 +78,10 @@ fn run_from(
                 };
             }
             Step::Ask(a, op) => match act(h, a, replies, t) {
-                Some(reply) => {
+                Ok(reply) => {
                     at = op.next(port, block, reply);
                 }
-                None => {
-                    let stop = if t.len() - h.at < 3 {
-                        Stop::NoRoom
-                    } else {
-                        Stop::NoReply
-                    };
-                    return Reached { stop, place };
-                }
+                Err(stop) => return Reached { stop, place },
             },
         }
     }
@@ -97,6 +91,7 @@ fn run_from(
 fn run_on(c: Conversation, replies: &[u32], t: &mut [u32]) -> Ran
     ensures t_after { shown_of result t.new ≡ run_into (conv_of c) replies.now t.old 0 0 }
     ensures at_in_bounds { result.at ≤ length t.old }
+    ensures counts { (result.actions ≡ result.to.actions) × (result.micros ≡ result.to.micros) }
 {
     let mut block = c.block;
     let mut h = Host {
@@ -115,6 +110,8 @@ fn run_on(c: Conversation, replies: &[u32], t: &mut [u32]) -> Ran
             actions: h.actions,
             micros: h.micros,
         },
+        actions: h.actions,
+        micros: h.micros,
         at: h.at,
         used: h.used,
     }
@@ -133,34 +130,34 @@ fn is_bad(replies: &[u32]) -> bool
     false
 }
 
+// A run that is turned away: the conversation as it was handed in, nothing written or used.
+fn refused(stop: Stop, c: Conversation, at: usize) -> Ran
+    ensures { result ≡ record { stop = stop; to = c; actions = c.actions; micros = c.micros; at = at; used = 0 } }
+{
+    Ran {
+        stop,
+        to: c,
+        actions: c.actions,
+        micros: c.micros,
+        at,
+        used: 0,
+    }
+}
+
 // Runs the conversation over the replies, writing each action's three words from place `at` of the transcript on.
 #[tactic(auto, using(crate::proofs::Laws::at_place, crate::proofs::Laws::within_part, calls::proofs::Laws::all_ended, calls::proofs::Laws::all_bad, calls::proofs::Laws::all_full))]
 pub fn run(c: Conversation, replies: &[u32], transcript: &mut [u32], at: usize) -> Ran
-    ensures { shown_of result transcript.new ≡ run_all (conv_of c) replies.now transcript.old at }
+    ensures shown { shown_of result transcript.new ≡ run_all (conv_of c) replies.now transcript.old at }
+    ensures counts { (result.actions ≡ result.to.actions) × (result.micros ≡ result.to.micros) }
 {
     if let Step::Done(_) = c.place {
-        return Ran {
-            stop: Stop::AfterEnd,
-            to: c,
-            at,
-            used: 0,
-        };
+        return refused(Stop::AfterEnd, c, at);
     }
     if is_bad(replies) {
-        return Ran {
-            stop: Stop::BadReply,
-            to: c,
-            at,
-            used: 0,
-        };
+        return refused(Stop::BadReply, c, at);
     }
     if transcript.len() < at {
-        return Ran {
-            stop: Stop::NoRoom,
-            to: c,
-            at,
-            used: 0,
-        };
+        return refused(Stop::NoRoom, c, at);
     }
     let r = run_on(c, replies, &mut transcript[at..]);
     Ran { at: at + r.at, ..r }

@@ -5,7 +5,8 @@ use Rattle.hardware.specs.Bound.{waited}
 use Rattle.hardware.specs.Talk.{Talk, Reply, ask, and_then}
 use Rattle.hardware.specs.declared.Action.{Action}
 use Rattle.hardware.specs.declared.Action.TheVariants.{Read, Write, Wait}
-use Rattle.std.specs.Prelude.{Option, Some, None}
+use Rattle.std.specs.Prelude.{Some, Result, Ok, Err}
+use Rattle.hardware.specs.declared.Stop.{Stop}
 use Rattle.hardware.specs.Told.{told}
 use Rattle.hardware.specs.declared.Step.{Step}
 use Rattle.hardware.specs.declared.Step.TheVariants.{Ask}
@@ -41,19 +42,19 @@ pub put_down : (t : Tape) (a : Action) {need wait n m : ℕ} {words' : List ℕ}
 put_down t a eu ew en ewait em = rw (ew, en, em, ← eu, ← ewait)
 
 -- what `act` gave
-module _ {rs : List ℕ} {a : Action} {t t' : Tape} {r : Option Reply} where
-  pub by : {s : Option Reply} → Acts a rs t r t' → r ≡ s → ActsBy a rs t s t'
-  by e c = subst (λ (x : Option Reply). ActsBy a rs t x t') c e.what
+module _ {rs : List ℕ} {a : Action} {t t' : Tape} {r : Result Reply Stop} where
+  pub by : {s : Result Reply Stop} → Acts a rs t r t' → r ≡ s → ActsBy a rs t s t'
+  by e c = subst (λ (x : Result Reply Stop). ActsBy a rs t x t') c e.what
 
   -- in a loop whose talk has come as far as the action
   module _ {A : Type 0} {m₀ : Talk A} {t₀ : Tape} where
-    pub act_short : {m : Talk A} → Acts a rs t r t' → r ≡ None → Moves rs m₀ t₀ m t → Moves rs m₀ t₀ m t'
+    pub act_short : {m : Talk A} {s : Stop} → Acts a rs t r t' → r ≡ Err s → Moves rs m₀ t₀ m t → Moves rs m₀ t₀ m t'
     act_short {m} e c p = subst (λ (x : Tape). Moves rs m₀ t₀ m x) (sym (by e c).0) p
 
-    pub act_done : {k : Reply → Talk A} {reply : Reply} → Acts a rs t r t' → r ≡ Some reply
+    pub act_done : {k : Reply → Talk A} {reply : Reply} → Acts a rs t r t' → r ≡ Ok reply
         → Moves rs m₀ t₀ (ask a k) t → Moves rs m₀ t₀ (k reply) t'
     act_done {k} {reply} e c p =
-        let e' : ActsBy a rs t (Some reply) t' = by e c in
+        let e' : ActsBy a rs t (Ok reply) t' = by e c in
         let q : Moves rs m₀ t₀ (k (reply_for a (drop t.used rs))) (on_tape t a) = then p (goes e'.0 e'.1 stays) in
         subst (λ (x : Tape). Moves rs m₀ t₀ (k reply) x) (sym e'.3) (subst (λ (x : Reply). Moves rs m₀ t₀ (k x) (on_tape t a)) e'.2 q)
 
@@ -73,11 +74,11 @@ pub moved : {A B : Type 0} {rs : List ℕ} (f : A → Talk B) {m n : Talk A} {o 
 moved f start end q = said_as start end (inside f q)
 
 -- an action by itself
-module _ {rs : List ℕ} {a : Action} {t t' : Tape} {r : Option Reply} {A : Type 0} {k : Reply → Talk A} where
-  pub single_short : Acts a rs t r t' → r ≡ None → Moves rs (ask a k) t (ask a k) t'
+module _ {rs : List ℕ} {a : Action} {t t' : Tape} {r : Result Reply Stop} {A : Type 0} {k : Reply → Talk A} where
+  pub single_short : {s : Stop} → Acts a rs t r t' → r ≡ Err s → Moves rs (ask a k) t (ask a k) t'
   single_short e c = act_short e c stays
 
-  pub single_done : {reply : Reply} {n : Talk A} → Acts a rs t r t' → r ≡ Some reply → n ≡ k reply → Moves rs (ask a k) t n t'
+  pub single_done : {reply : Reply} {n : Talk A} → Acts a rs t r t' → r ≡ Ok reply → n ≡ k reply → Moves rs (ask a k) t n t'
   single_done e c same = told_as (sym same) (act_done e c stays)
 
 -- further on, to a step that asks

@@ -1,9 +1,11 @@
 -- A talk that goes on over a script and a tape
-use Rattle.std.specs.Prelude.{◌≡◌, ℕ, ◌+◌, ◌-◌, ◌%◌, ◌^◌, ◌<◌, ◌≤◌, List, length, drop, Option, Some, None}
+use Rattle.std.specs.Prelude.{◌≡◌, ℕ, ◌+◌, ◌-◌, ◌%◌, ◌^◌, ◌<◌, ◌≤◌, List, length, drop, Result, Ok, Err}
 use Rattle.std.proofs.lemmas.List.Edits.{sets}
 use Rattle.hardware.specs.Bound.{waited}
 use Rattle.hardware.specs.Talk.{Talk, Reply, ask}
 use Rattle.hardware.specs.declared.Action.{Action}
+use Rattle.hardware.specs.declared.Stop.{Stop}
+use Rattle.hardware.specs.declared.Stop.TheVariants.{NoRoom, NoReply}
 use Rattle.drive.specs.Act.{uses, words, reply_for}
 use Rattle.drive.specs.declared.Host.{Host}
 
@@ -36,11 +38,17 @@ pub data Moves {A : Type 0} (rs : List ℕ) : Talk A → Tape → Talk A → Tap
       → Moves rs (k (reply_for a (drop t.used rs))) (on_tape t a) m t'
       → Moves rs (ask a k) t m t'
 
--- one action is done; or nothing is, since there is no room or no reply
-abbrev pub ActsBy : Action → List ℕ → Tape → Option Reply → Tape → Type 0
-ActsBy a rs t None t' = (t' ≡ t) × (t.used ≤ length rs → 3 ≤ length t.transcript - t.at → length rs - t.used < uses a)
-ActsBy a rs t (Some reply) t' =
+-- why nothing is done: 27 for want of room, else 26 for want of a reply
+abbrev pub Short : Action → List ℕ → Tape → Stop → Type 0
+Short a rs t NoRoom = length t.transcript - t.at < 3
+Short a rs t NoReply = (3 ≤ length t.transcript - t.at) × (t.used ≤ length rs → length rs - t.used < uses a)
+Short a rs t _ = ⊥
+
+-- one action is done, or nothing is
+abbrev pub ActsBy : Action → List ℕ → Tape → Result Reply Stop → Tape → Type 0
+ActsBy a rs t (Err stop) t' = (t' ≡ t) × Short a rs t stop
+ActsBy a rs t (Ok reply) t' =
     (3 ≤ length t.transcript - t.at) × (uses a ≤ length rs - t.used) × (reply_for a (drop t.used rs) ≡ reply) × (t' ≡ on_tape t a)
 
-pub record Acts (a : Action) (rs : List ℕ) (t : Tape) (r : Option Reply) (t' : Tape) : Type 0 where
+pub record Acts (a : Action) (rs : List ℕ) (t : Tape) (r : Result Reply Stop) (t' : Tape) : Type 0 where
   pub what : ActsBy a rs t r t'

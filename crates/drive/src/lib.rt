@@ -9,7 +9,7 @@ ghost use Rattle.hardware.specs.Bound.{waited};
 ghost use Rattle.drive.specs.Act.{uses, kind, register, value, words, reply_of, reply_for};
 ghost use Rattle.drive.specs.Moves.{tape, Acts};
 
-use hardware::{Action, Failure, Reply};
+use hardware::{Action, Failure, Reply, Stop};
 use script::read_pair;
 
 #[derive(Clone, Copy)]
@@ -106,25 +106,25 @@ fn reply_at(a: Action, replies: &[u32], used: usize) -> Reply
     }
 }
 
-// Nothing is done where there is no room, or no reply.
+// Nothing is done where there is no room (27), or else no reply (26).
 #[tactic(auto, using(crate::proofs::Laws::put_down))]
-pub fn act(h: &mut Host, a: Action, replies: &[u32], t: &mut [u32]) -> Option<Reply>
+pub fn act(h: &mut Host, a: Action, replies: &[u32], t: &mut [u32]) -> Result<Reply, Stop>
     ensures { Acts a replies.now (tape h.old t.old) result (tape h.new t.new) }
 {
     let at = h.at;
     let used = h.used;
     if t.len() < at {
-        return None;
+        return Err(Stop::NoRoom);
     }
     if t.len() - at < 3 {
-        return None;
+        return Err(Stop::NoRoom);
     }
     if replies.len() < used {
-        return None;
+        return Err(Stop::NoReply);
     }
     let need = uses_of(a);
     if replies.len() - used < need {
-        return None;
+        return Err(Stop::NoReply);
     }
     let reply = reply_at(a, replies, used);
     write_down(t, at, a);
@@ -134,5 +134,5 @@ pub fn act(h: &mut Host, a: Action, replies: &[u32], t: &mut [u32]) -> Option<Re
         actions: h.actions.wrapping_add(1),
         micros: h.micros.wrapping_add(waited_of(a)),
     };
-    Some(reply)
+    Ok(reply)
 }

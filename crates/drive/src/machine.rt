@@ -33,8 +33,8 @@ pub fn single<M: Machine>(
     ensures { Moves replies.now (ask a (M.resume context s)) (tape h.old t.old) (told (M.resume context) result) (tape h.new t.new) }
 {
     match act(h, a, replies, t) {
-        None => Step::Ask(a, s),
-        Some(reply) => s.next(context, reply),
+        Err(_) => Step::Ask(a, s),
+        Ok(reply) => s.next(context, reply),
     }
 }
 

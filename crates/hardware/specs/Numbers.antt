@@ -1,6 +1,10 @@
--- Document 01's table: each cause's number, and the values that go with it, in the table's order
+-- All numbers of the part, and the values that go with each: document 01's table in its order, then the calls from C
 use Rattle.std.specs.Prelude.{ℕ, List, [], ◌∷◌}
 use Rattle.hardware.specs.declared.Error.{Error}
+use Rattle.hardware.specs.declared.Misuse.{Misuse}
+use Rattle.hardware.specs.declared.Misuse.TheVariants.{Unknown, NotHeld, NotEnded}
+use Rattle.hardware.specs.declared.Stop.{Stop}
+use Rattle.hardware.specs.declared.Stop.TheVariants.{Done, AfterEnd, BadReply, NoReply, NoRoom}
 use Rattle.hardware.specs.declared.Error.TheVariants.{
   Io,
   Removed,
@@ -46,3 +50,17 @@ values Lan = []
 values Fiber = []
 values Address = []
 values Block = []
+
+-- how a step or a run stopped. Its values are the conversation, and of 26 and 27 the counts and places to go on from
+abbrev pub stop_number : Stop → ℕ
+stop_number Done = 0
+stop_number AfterEnd = 24
+stop_number BadReply = 25
+stop_number NoReply = 26
+stop_number NoRoom = 27
+
+-- a call from C that does nothing; it has no values
+abbrev pub misuse_number : Misuse → ℕ
+misuse_number Unknown = 100
+misuse_number NotHeld = 101
+misuse_number NotEnded = 102

@@ -4,6 +4,7 @@
 
 ghost use Rattle.std.specs.Prelude.{◌≡◌};
 ghost use Rattle.hardware.specs.Talk.{checked, raw, done};
+ghost use Rattle.hardware.specs.Numbers.{stop_number, misuse_number};
 ghost use Rattle.hardware.specs.Refusal.{is_fiber, refusal};
 ghost use Rattle.hardware.specs.Regs.{regs};
 ghost use Rattle.hardware.specs.declared.Error.TheVariants.{Io};
@@ -79,6 +80,27 @@ pub enum Error {
     Block,
 }
 
+// How a step or a run stopped. Done: a step's action is done, or a run has come to the conversation's end.
+#[derive(Clone, Copy)]
+pub enum Stop {
+    Done,
+    AfterEnd,
+    BadReply,
+    NoReply,
+    NoRoom,
+}
+
+// Why a call from C did nothing, beside these.
+#[derive(Clone, Copy)]
+pub enum Misuse {
+    // no such family, device or operation, or arguments that are not the operation's
+    Unknown,
+    // words that are no conversation
+    NotHeld,
+    // an answer before the end
+    NotEnded,
+}
+
 // sync.rs's `regs`: SWSM and SW_FW_SYNC of a family.
 #[derive(Clone, Copy)]
 pub struct Regs {
@@ -91,6 +113,32 @@ pub struct Regs {
 pub enum Step<Q, S, A> {
     Ask(Q, S),
     Done(A),
+}
+
+impl Stop {
+    pub fn number(self) -> u32
+        ensures { stop_number self ≡ result }
+    {
+        match self {
+            Stop::Done => 0,
+            Stop::AfterEnd => 24,
+            Stop::BadReply => 25,
+            Stop::NoReply => 26,
+            Stop::NoRoom => 27,
+        }
+    }
+}
+
+impl Misuse {
+    pub fn number(self) -> u32
+        ensures { misuse_number self ≡ result }
+    {
+        match self {
+            Misuse::Unknown => 100,
+            Misuse::NotHeld => 101,
+            Misuse::NotEnded => 102,
+        }
+    }
 }
 
 impl From<Failure> for Error {
@@ -112,6 +160,19 @@ impl Port {
     pub const LINKS: u32 = 0x42a4;
 
     pub const MMNGC: u32 = 0x42d0;
+
+    // The first word of the host block.
+    pub const FLEX_MNG: u32 = 0x1_5800;
+}
+
+impl Regs {
+    pub const SWSM_X552: u32 = 0x1_0140;
+
+    pub const SYNC_X552: u32 = 0x1_0160;
+
+    pub const SWSM_X553: u32 = 0x1_5f70;
+
+    pub const SYNC_X553: u32 = 0x1_5f78;
 }
 
 impl From<Family> for Regs {
@@ -120,12 +181,12 @@ impl From<Family> for Regs {
     fn from(family: Family) -> Regs {
         match family {
             Family::X552 => Regs {
-                swsm: 0x10140,
-                sync: 0x10160,
+                swsm: Regs::SWSM_X552,
+                sync: Regs::SYNC_X552,
             },
             Family::X553 => Regs {
-                swsm: 0x15f70,
-                sync: 0x15f78,
+                swsm: Regs::SWSM_X553,
+                sync: Regs::SYNC_X553,
             },
         }
     }

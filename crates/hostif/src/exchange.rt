@@ -5,8 +5,8 @@ ghost use Rattle.hostif.specs.Post.{told_post};
 ghost use Rattle.hostif.specs.Exchange.{resume_exchange, told_exchange, exchange_after_post, exchange_rest};
 
 use crate::post::Post;
-use hardware::{Action, Error, Reply, Step, raw};
-use words::host_words::{FLEX_MNG, fits, flex_mng, reply_words};
+use hardware::{Action, Error, Port, Reply, Step, raw};
+use words::host_words::{fits, flex_mng, reply_words};
 
 // Its answer is the reply's status.
 #[derive(Clone, Copy)]
@@ -27,7 +27,7 @@ impl Exchange {
         match step {
             Step::Ask(a, s) => Step::Ask(a, Exchange::Post(s)),
             Step::Done(Err(e)) => Step::Done(Err(e)),
-            Step::Done(Ok(last)) => Step::Ask(Action::Read(FLEX_MNG), Exchange::Head(last)),
+            Step::Done(Ok(last)) => Step::Ask(Action::Read(Port::FLEX_MNG), Exchange::Head(last)),
         }
     }
 

@@ -74,11 +74,11 @@ impl KrPlace {
                 Change::of(Change::LINK_CTRL_1, 0x2000_c700, set)
             }
             KrPlace::Train => Change::of(Change::RX_TRN_LINKUP_CTRL, 0, 0x10),
-            KrPlace::Ffe4 => Change::of(Change::DSP_TXFFE_STATE_4, 0x1_8040, 0),
-            KrPlace::Ffe5 => Change::of(Change::DSP_TXFFE_STATE_5, 0x1_8040, 0),
+            KrPlace::Ffe4 => Change::of(Change::DSP_TXFFE_STATE_4, Change::ADAPT, 0),
+            KrPlace::Ffe5 => Change::of(Change::DSP_TXFFE_STATE_5, Change::ADAPT, 0),
             KrPlace::Coeff => Change::of(Change::TX_COEFF_CTRL_1, 0, 0x8000_000e),
-            KrPlace::Restart => Change::of(Change::LINK_CTRL_1, 0, 0x8000_0000),
-            KrPlace::RestartLane => Change::of(Change::FLX, 0, 0x8000_0000),
+            KrPlace::Restart => Change::of(Change::LINK_CTRL_1, 0, Change::RESTART),
+            KrPlace::RestartLane => Change::of(Change::FLX, 0, Change::RESTART),
         }
     }
 }

@@ -15,9 +15,11 @@ use Rattle.hardware.proofs.Bits.{bit-bit_and, bit_zero}
 use Rattle.reference.specs.Out.{Out}
 use Rattle.operations.specs.Operations.{operation_with}
 use Rattle.mixing.specs.Heeded.{ended_well, Heeded}
-use Rattle.mixing.specs.Mixing.{table, Right, Mixed, starting, Mixing, port_at, takes, begun_if, ops_of, Demand3}
+use Rattle.mixing.specs.Operations.{port_at}
+use Rattle.mixing.specs.Mixing.{table, Right, Mixed, starting, Mixing, takes, begun_if, ops_of, Demand3}
 use Rattle.mixing.specs.Model.{Side, lan0, lan1, Owner, nobody, of_port, Chip, fw_bits, free}
-use Rattle.mixing.specs.System.{Made, is_ok, ends_well, Sys, Begun}
+use Rattle.mixing.specs.Events.{is_ok, ends_well}
+use Rattle.mixing.specs.System.{Made, Sys, Begun}
 use Rattle.mixing.proofs.Mix.{Rest, OpEnds, PortOk, Inv, Fit, run_ok}
 use Rattle.mixing.proofs.Operations.{sound}
 use Rattle.mixing.proofs.Share.{is_port, ChipOk}
@@ -44,6 +46,7 @@ starts f bits address regs = record {
   view = λ _. nothing;
   sees = λ p. record { smbi = refl; mine = λ i. refl; sync = λ e. absurd (true≢false (sym e)); sel = λ a e. absurd (none-some a e); lock = λ a e. absurd (none-some a e) };
   ports = λ p. record { clean = record { smbi = refl; free = refl }; none = λ _ i. refl };
+  picked = λ p a e. absurd (none-some a e);
   kr = λ a. refl;
   right = tt;
 }

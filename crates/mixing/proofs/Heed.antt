@@ -6,7 +6,7 @@ use mathlib.Core.Bool.{Bool, false, true≢false}
 use Rattle.hardware.specs.declared.Family.{Family}
 use Rattle.hardware.proofs.Laws.{then_end, then_assoc}
 use Rattle.mixing.specs.Heeded.{LockCall, lock_talk, NotLock, Fails, fails_end, fails_ask, Heeds, heeds_end, heeds_ask, heeds_call}
-use Rattle.mixing.specs.System.{is_ok}
+use Rattle.mixing.specs.Events.{is_ok}
 use Rattle.mixing.proofs.Only.{Only, only_end, only_ask}
 
 -- whatever comes first

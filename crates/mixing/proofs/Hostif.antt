@@ -37,7 +37,7 @@ use Rattle.reference.specs.Hostif.{
   phy_activity,
 }
 use Rattle.mixing.specs.Model.{kind}
-use Rattle.mixing.specs.System.{is_ok}
+use Rattle.mixing.specs.Events.{is_ok}
 use Rattle.mixing.proofs.Only.{
   by_turns,
   IsFar,

@@ -19,7 +19,8 @@ use Rattle.reference.specs.X552.{iosf_turn, iosf_idle, kr_read_body, kr_write_bo
 use Rattle.reference.proofs.Locked.{locked_bits_lem}
 use Rattle.mixing.specs.Heeded.{NotLock, Heeds}
 use Rattle.mixing.specs.Model.{is_ctrl, is_data, kind}
-use Rattle.mixing.specs.System.{Caller, reads, writes, access, done, is_ok}
+use Rattle.mixing.specs.Events.{is_ok}
+use Rattle.mixing.specs.System.{Caller, reads, writes, access, done}
 use Rattle.mixing.proofs.Heed.{heeds_only}
 use Rattle.mixing.proofs.Hold.{Now, least, plus}
 use Rattle.mixing.proofs.Lock.{or_stop_lem, on_success}

@@ -19,6 +19,7 @@ pub mod X553
 pub mod Operations
 pub mod Claim
 pub mod Alone
+pub mod Pairs
 pub mod Examples
 pub mod Conversations
 pub mod Turns

@@ -16,21 +16,8 @@ use Rattle.reference.specs.Sync.{plain, both, held_taken, release_bits}
 use Rattle.reference.specs.X552.{iosf_turn, iosf_idle, kr_read_body, kr_write_body, kr_read, kr_write}
 use Rattle.mixing.specs.Mixing.{RightGave}
 use Rattle.mixing.specs.Model.{Kind, is_swsm, is_sync, is_ctrl, is_data, is_other, kind}
-use Rattle.mixing.specs.System.{
-  Caller,
-  port_of,
-  Access,
-  reads,
-  writes,
-  Given,
-  access_talk,
-  NotIosf,
-  Outside,
-  if_data,
-  touch,
-  seen_then,
-  word,
-}
+use Rattle.mixing.specs.Events.{Touch, if_data, touch, word}
+use Rattle.mixing.specs.System.{Caller, port_of, Access, reads, writes, Given, access_talk, NotIosf, Outside, seen_then}
 use Rattle.mixing.proofs.Kr.{bits_only}
 use Rattle.mixing.proofs.Only.{by_turns, only_end, only_ask}
 use Rattle.mixing.proofs.Plain.{Plain, plain_acquire, plain_release}
@@ -85,14 +72,14 @@ Own f x sel seen (action.Wait n) = Unit {0}
 pub data Loc {A : Type 0} (f : Family) (x : Access) (Q : Option ℕ → A → Type 0) : Option ℕ → Option ℕ → Talk A → Type 0 where
   loc_end : {sel seen : Option ℕ} {a : A} → Q seen a → Loc f x Q sel seen (end a)
   loc_ask : {sel seen : Option ℕ} {a : Action} {c : Reply → Talk A} → Own f x sel seen a
-      → ((r : Reply) → Loc f x Q (sel_next f a sel) (seen_then (touch f a r) seen) (c r)) → Loc f x Q sel seen (ask a c)
+      → ((own : ℕ) (r : Reply) → Loc f x Q (sel_next f a sel) (seen_then (touch f own a r) seen) (c r)) → Loc f x Q sel seen (ask a c)
 
 module _ {f : Family} {x : Access} where
   -- whatever is selected at the end of the first
   loc_then : {A B : Type 0} {P : Option ℕ → A → Type 0} {Q : Option ℕ → B → Type 0} {k : A → Talk B} {sel seen : Option ℕ} {t : Talk A}
       → Loc f x P sel seen t → ((z s : Option ℕ) (a : A) → P s a → Loc f x Q z s (k a)) → Loc f x Q sel seen (and_then t k)
   loc_then (loc_end h) g = g _ _ _ h
-  loc_then (loc_ask n h) g = loc_ask n (λ r. loc_then (h r) g)
+  loc_then (loc_ask n h) g = loc_ask n (λ own r. loc_then (h own r) g)
 
   loc_pick : {A : Type 0} {Q : Option ℕ → A → Type 0} {sel seen : Option ℕ} {t u : Talk A} (b : Bool)
       → Loc f x Q sel seen t → Loc f x Q sel seen u → Loc f x Q sel seen (pick b t u)
@@ -101,50 +88,61 @@ module _ {f : Family} {x : Access} where
 
 -- ---- the locks touch no DATA
 
-plain_read : (x : Access) (sel seen : Option ℕ) (k : Kind) → NotIosf k → OwnRead x sel seen k × ((v : ℕ) → if_data k v ≡ None)
-plain_read x sel seen is_swsm h = (tt, λ v. refl)
-plain_read x sel seen is_sync h = (tt, λ v. refl)
-plain_read x sel seen is_ctrl h = absurd h
+no_data : (k : Kind) (t : Touch) → NotIosf k → if_data k t ≡ None
+no_data is_swsm t h = refl
+no_data is_sync t h = refl
+no_data is_ctrl t h = refl
+no_data is_data t h = absurd h
+no_data is_other t h = refl
+
+pub untouched : (f : Family) (own : ℕ) (a : Action) (r : Reply) → Outside f a → touch f own a r ≡ None
+untouched f own (action.Read g) r h = no_data (kind f g) _ h
+untouched f own (action.Write g w) r h = no_data (kind f g) _ h
+untouched f own (action.Wait n) r h = refl
+
+plain_read : (x : Access) (sel seen : Option ℕ) (k : Kind) → NotIosf k → OwnRead x sel seen k
+plain_read x sel seen is_swsm h = tt
+plain_read x sel seen is_sync h = tt
+plain_read x sel seen is_ctrl h = tt
 plain_read x sel seen is_data h = absurd h
-plain_read x sel seen is_other h = (tt, λ v. refl)
+plain_read x sel seen is_other h = tt
 
-plain_write : (x : Access) (sel seen : Option ℕ) (w : ℕ) (k : Kind) → NotIosf k → OwnWrite x sel seen w k × (if_data k w ≡ None)
-plain_write x sel seen w is_swsm h = (tt, refl)
-plain_write x sel seen w is_sync h = (tt, refl)
-plain_write x sel seen w is_ctrl h = absurd h
+plain_write : (x : Access) (sel seen : Option ℕ) (w : ℕ) (k : Kind) → NotIosf k → OwnWrite x sel seen w k
+plain_write x sel seen w is_swsm h = tt
+plain_write x sel seen w is_sync h = tt
+plain_write x sel seen w is_ctrl h = tt
 plain_write x sel seen w is_data h = absurd h
-plain_write x sel seen w is_other h = (tt, refl)
+plain_write x sel seen w is_other h = tt
 
-plain_action : (f : Family) (x : Access) (sel seen : Option ℕ) (a : Action) → Outside f a → Own f x sel seen a × ((r : Reply) → touch f a r ≡ None)
-plain_action f x sel seen (action.Read r) h = let p = plain_read x sel seen (kind f r) h in (p.0, λ a. p.1 (word a))
-plain_action f x sel seen (action.Write r w) h = let p = plain_write x sel seen w (kind f r) h in (p.0, λ a. p.1)
-plain_action f x sel seen (action.Wait n) h = (tt, λ a. refl)
+plain_action : (f : Family) (x : Access) (sel seen : Option ℕ) (a : Action) → Outside f a → Own f x sel seen a
+plain_action f x sel seen (action.Read r) h = plain_read x sel seen (kind f r) h
+plain_action f x sel seen (action.Write r w) h = plain_write x sel seen w (kind f r) h
+plain_action f x sel seen (action.Wait n) h = tt
 
 loc_plain : {A : Type 0} {f : Family} {x : Access} {sel seen : Option ℕ} {t : Talk A} → Plain f t → Loc f x (λ s _. s ≡ seen) sel seen t
 loc_plain only_end = loc_end refl
 loc_plain {f = f} {x} {sel} {seen} (only_ask {a} {c} o p) =
-    let d = plain_action f x sel seen a o in
-    loc_ask d.0 (λ r. subst (λ s. Loc f x (λ s _. s ≡ seen) (sel_next f a sel) (seen_then s seen) (c r)) (sym (d.1 r)) (loc_plain {sel = sel_next f a sel} (p r)))
+    loc_ask (plain_action f x sel seen a o) (λ own r. subst (λ s. Loc f x (λ s _. s ≡ seen) (sel_next f a sel) (seen_then s seen) (c r)) (sym (untouched f own a r o)) (loc_plain {sel = sel_next f a sel} (p r)))
 
 -- ---- the parts of an access
 
 module _ {A : Type 0} {x : Access} {Q : Option ℕ → A → Type 0} {sel seen : Option ℕ} {c : Reply → Talk A} where
   read_ctrl : (f : Family) → ((r : Reply) → Loc f x Q sel seen (c r)) → Loc f x Q sel seen (ask (action.Read 0x11144) c)
-  read_ctrl X552 h = loc_ask tt h
-  read_ctrl X553 h = loc_ask tt h
+  read_ctrl X552 h = loc_ask tt (λ _. h)
+  read_ctrl X553 h = loc_ask tt (λ _. h)
 
   write_ctrl : (f : Family) {w : ℕ} → ((r : Reply) → Loc f x Q (Some w) seen (c r)) → Loc f x Q sel seen (ask (action.Write 0x11144 w) c)
-  write_ctrl X552 h = loc_ask tt h
-  write_ctrl X553 h = loc_ask tt h
+  write_ctrl X552 h = loc_ask tt (λ _. h)
+  write_ctrl X553 h = loc_ask tt (λ _. h)
 
   read_data : (f : Family) → TouchRead x sel seen → ((r : Reply) → Loc f x Q sel (Some (word r)) (c r)) → Loc f x Q sel seen (ask (action.Read 0x11148) c)
-  read_data X552 n h = loc_ask n h
-  read_data X553 n h = loc_ask n h
+  read_data X552 n h = loc_ask n (λ _. h)
+  read_data X553 n h = loc_ask n (λ _. h)
 
   write_data : (f : Family) {w : ℕ} → TouchWrite x sel seen w → ((r : Reply) → Loc f x Q sel (Some w) (c r))
       → Loc f x Q sel seen (ask (action.Write 0x11148 w) c)
-  write_data X552 n h = loc_ask n h
-  write_data X553 n h = loc_ask n h
+  write_data X552 n h = loc_ask n (λ _. h)
+  write_data X553 n h = loc_ask n (λ _. h)
 
 idles : {f : Family} {x : Access} {A : Type 0} {Q : Option ℕ → Res A → Type 0} {sel seen : Option ℕ} (pause : ℕ) (k : ℕ → Call A)
     → ((v : ℕ) → Loc f x Q sel seen (k v)) → ((e : Error) → Q seen (Err e)) → Loc f x Q sel seen (and_then (iosf_idle pause) (or_stop k))
@@ -156,7 +154,7 @@ idles {f} {x} {A} {Q} {sel} {seen} pause k h he =
     step : (again : ℕ → Call ℕ) → ((last : ℕ) → Loc f x Q sel seen (and_then (again last) (or_stop k))) → (v : ℕ) (b : Bool)
         → Loc f x Q sel seen (and_then (pick b (end (Ok v)) (ask (action.Wait pause) (λ _. again v))) (or_stop k))
     step again g v true = h v
-    step again g v false = loc_ask tt (λ _. g v)
+    step again g v false = loc_ask tt (λ _ _. g v)
 
     turn : (again : ℕ → Call ℕ) → ((last : ℕ) → Loc f x Q sel seen (and_then (again last) (or_stop k))) → (r : Reply)
         → Loc f x Q sel seen (and_then (or_stop (λ v. pick (is_clear v 0x80000000) (end (Ok v)) (ask (action.Wait pause) (λ _. again v))) (raw r)) (or_stop k))

@@ -21,7 +21,7 @@ use Rattle.operations.specs.declared.Operation.TheVariants as operationv
 use Rattle.mixing.specs.Heeded.{ended_well}
 use Rattle.mixing.specs.Mixing.{takes}
 use Rattle.mixing.specs.Operations.{mixable}
-use Rattle.mixing.specs.System.{is_ok}
+use Rattle.mixing.specs.Events.{is_ok}
 use Rattle.mixing.proofs.Hostif.{s_command, s_token, s_activity}
 use Rattle.mixing.proofs.Kr.{reads_kr, writes_kr}
 use Rattle.mixing.proofs.Lock.{and_left}

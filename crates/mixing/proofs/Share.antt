@@ -42,7 +42,7 @@ use Rattle.mixing.specs.Model.{
   do_action,
   fw_bits,
 }
-use Rattle.mixing.specs.System.{word}
+use Rattle.mixing.specs.Events.{word}
 use Rattle.mixing.proofs.Hold.{or_first}
 use Rattle.mixing.proofs.Lock.{is_true, is_false}
 use Rattle.mixing.proofs.Wp.{
@@ -283,7 +283,7 @@ sync_write p w c W v k s m =
 
 -- ---- the KR access registers
 
-some_inj : (a b : ℕ) → ◌≡◌ {A = Option ℕ} (Some a) (Some b) → a ≡ b
+pub some_inj : (a b : ℕ) → ◌≡◌ {A = Option ℕ} (Some a) (Some b) → a ≡ b
 some_inj a b e = cc
 
 ctrl_write : (p : Side) (w : World) (c : Chip) (W : View) (v : ℕ) → ChipOk c → Sees p c W → W.mine 1 ≡ true

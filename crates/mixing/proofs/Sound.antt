@@ -16,7 +16,8 @@ use Rattle.words.specs.Semaphore.{software, bits}
 use Rattle.reference.specs.Sync.{mux, acquire_bits, settle, release_bits, Ending, plain, with_block, held, held_done, held_taken}
 use Rattle.mixing.specs.Heeded as heeded
 use Rattle.mixing.specs.Heeded.{Fails, fails_end, Heeds, heeds_end, heeds_ask}
-use Rattle.mixing.specs.System.{access_talk, Made, done, other, access, is_ok}
+use Rattle.mixing.specs.Events.{is_ok}
+use Rattle.mixing.specs.System.{access_talk, Made, done, other, access}
 use Rattle.mixing.proofs.Heed.{fails_after, heeds_then, heeds_lock, heeds_only}
 use Rattle.mixing.proofs.Hold.{Clean, Now, Least, least, plus, minus, software_bits, quiet_mux, acquires, releases}
 use Rattle.mixing.proofs.Lock.{or_stop_lem, and_left}

@@ -27,7 +27,8 @@ use Rattle.reference.specs.Acquire.{
 use Rattle.reference.specs.Hostif.{token}
 use Rattle.reference.specs.Sync.{acquire_bits, release_bits}
 use Rattle.mixing.specs.Heeded.{Fails, fails_end, Heeds, heeds_end, heeds_ask}
-use Rattle.mixing.specs.System.{Made, done, other, is_ok}
+use Rattle.mixing.specs.Events.{is_ok}
+use Rattle.mixing.specs.System.{Made, done, other}
 use Rattle.mixing.proofs.Heed.{fails_after, heeds_then, heeds_bind}
 use Rattle.mixing.proofs.Hold.{Now, Least, least, plus, minus}
 use Rattle.mixing.proofs.Hostif.{s_token}

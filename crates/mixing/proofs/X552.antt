@@ -46,7 +46,7 @@ use Rattle.reference.specs.X552.{
   setup,
 }
 use Rattle.mixing.specs.Model.{kind}
-use Rattle.mixing.specs.System.{is_ok}
+use Rattle.mixing.specs.Events.{is_ok}
 use Rattle.mixing.proofs.Hostif.{q_post}
 use Rattle.mixing.proofs.Kr.{reads_kr, writes_kr}
 use Rattle.mixing.proofs.Mdio.{s_read_reg, s_modify, s_probe, s_scan, s_reset, s_abilities, s_advertise, s_an_link}

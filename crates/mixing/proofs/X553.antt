@@ -32,7 +32,7 @@ use Rattle.reference.specs.X553.{
   setup_backplane,
   setup,
 }
-use Rattle.mixing.specs.System.{is_ok}
+use Rattle.mixing.specs.Events.{is_ok}
 use Rattle.mixing.proofs.Hostif.{s_activity}
 use Rattle.mixing.proofs.Kr.{writes_kr}
 use Rattle.mixing.proofs.Only.{far}

@@ -13,7 +13,7 @@ pub record Whole (A : Type 0) : Type 0 where
   pub left : ℕ → ℕ
 
 abbrev pub calm : ℕ → World
-calm v = record { busy = false; reply = Ok v }
+calm v = record { busy = false; reply = Ok v; kind = 0; value = 0 }
 
 -- a conversation from its start to its end; any other register answers what comes next in `will`
 unfoldable pub whole : {A : Type 0} → Family → Side → (ℕ → ℕ) → Chip → Talk A → Whole A

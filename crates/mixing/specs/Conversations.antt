@@ -1,63 +1,102 @@
--- The code's conversations on the model's chip: begun as `begin` begins them, and moved as `step` moves them
-use Rattle.hardware.specs.Talk.{Talk, end, ask, and_then, pick, Reply}
-use Rattle.std.specs.Prelude.{ℕ, ◌≡◌, List, [], ◌∷◌, Err, Ok}
+-- Demand 3 of the code: two ports' conversations, as `begin` begins them and `step` moves them, on the model's chip
+use Rattle.hardware.specs.Talk.{Talk, end, ask, pick, Reply}
+use Rattle.std.specs.Prelude.{ℕ, ◌≡◌, Bool, true, List, [], ◌∷◌, Err, Ok, Option, None, Some}
 use Rattle.hardware.specs.declared.Family.{Family}
 use Rattle.reference.specs.Out.{Out}
+use Rattle.operations.specs.Addresses.{refused}
 use Rattle.calls.specs.Conversation.{Conv, opening, begun, step_talk}
-use Rattle.mixing.specs.Mixing.{Asked, Demand3, Parts, ops_of, port_at, starting}
-use Rattle.mixing.specs.Model.{Side, Chip, World, do_action, do_firmware, free}
-use Rattle.mixing.specs.Operations.{mixable}
-use Rattle.mixing.specs.System.{State, idle, out, inside, word, Sys, change, Event, begin, act, firm, run}
+use Rattle.mixing.specs.Model.{Side, of_port, put, Chip, World, do_action, do_firmware, free}
+use Rattle.mixing.specs.Operations.{mixable, Asked, port_at}
+use Rattle.mixing.specs.Events.{is_ok, ends_well, word, Touch, got, wrote, touch, own_then, change, Event, begin, act, firm}
 
--- the chip, and each port's last conversation
+-- A port's last conversation; whether each of its calls so far was refused, or ended with an answer that is no error, or still
+-- runs; and what the port itself last wrote to CTRL
+pub record AtPort : Type 0 where
+  pub conv : Conv
+  pub well : Bool
+  pub own : ℕ
+
+-- the chip, the two ports, and the touches of DATA, the last first
 pub record Real : Type 0 where
   pub chip : Chip
-  pub convs : Side → Conv
+  pub ports : Side → AtPort
+  pub touches : List Touch
 
 -- the first of the two words that `step` is handed
 abbrev pub kind_of : Reply → ℕ
 kind_of (Ok v) = 0
 kind_of (Err v) = 1
 
--- a step with the chip's reply to the action that is due
-abbrev pub steps : Family → Side → World → Real → Talk Out → Real
-steps f p w s (end r) = s
-steps f p w s (ask a k) =
-    let d = do_action f p w s.chip a in
-    record { chip = d.chip; convs = change p (step_talk (s.convs p) (kind_of d.reply) (word d.reply)).to s.convs }
+abbrev pub well_then : Talk Out → Bool → Bool
+well_then (end o) well = ends_well (is_ok o.0) well
+well_then (ask a k) well = well
 
--- a begin, where none is running
-abbrev pub starts : Family → Side → Asked → Real → Talk Out → Real
-starts f p q s (end r) =
-    pick (mixable q.what)
-    (record { chip = s.chip; convs = change p (begun (port_at f p q.device) q.what q.block) s.convs }) s
-starts f p q s (ask a k) = s
+abbrev pub noted : Option Touch → List Touch → List Touch
+noted None l = l
+noted (Some t) l = t ∷ l
+
+abbrev pub at_port : Conv → Bool → ℕ → AtPort
+at_port c well own = record { conv = c; well = well; own = own }
+
+abbrev pub changed : Side → Chip → AtPort → List Touch → Real → Real
+changed p c d l s = record { chip = c; ports = change p d s.ports; touches = l }
+
+-- a step with the chip's reply to the action that is due; after the end a step with any two words
+abbrev pub steps : Family → Side → World → Real → AtPort → Talk Out → Real
+steps f p w s d (end r) = changed p s.chip (at_port (step_talk d.conv w.kind w.value).to d.well d.own) s.touches s
+steps f p w s d (ask a k) =
+    let x = do_action f p w s.chip a in
+    let c = (step_talk d.conv (kind_of x.reply) (word x.reply)).to in
+    changed p x.chip (at_port c (well_then c.talk d.well) (own_then f a d.own)) (noted (touch f d.own a x.reply) s.touches) s
+
+-- A begin. Where one of the port's own is running nothing happens: a host begins no other before it has ended. A call that is
+-- refused leaves `well` as it was
+abbrev pub starts : Family → Side → Asked → Real → AtPort → Talk Out → Real
+starts f p q s d (end r) =
+    let port = port_at f p q.device in
+    let c = begun port q.what q.block in
+    let well = pick (is_ok (refused port q.what q.block)) (well_then c.talk d.well) d.well in
+    pick (mixable q.what) (changed p s.chip (at_port c well d.own) s.touches s) s
+starts f p q s d (ask a k) = s
 
 abbrev pub step_real : Family → Event Asked → Real → Real
-step_real f (begin p q) s = starts f p q s (s.convs p).talk
-step_real f (act p w) s = steps f p w s (s.convs p).talk
-step_real f (firm i) s = record { chip = do_firmware i s.chip; convs = s.convs }
+step_real f (begin p q) s = starts f p q s (s.ports p) (s.ports p).conv.talk
+step_real f (act p w) s = steps f p w s (s.ports p) (s.ports p).conv.talk
+step_real f (firm i) s = record { chip = do_firmware i s.chip; ports = s.ports; touches = s.touches }
 
+-- the list's first event first
 unfoldable pub run_real : Family → List (Event Asked) → Real → Real
 run_real f [] s = s
 run_real f (e ∷ es) s = run_real f es (step_real f e s)
 
--- before its first operation a port has any conversation that has ended
+-- before its first call a port has any conversation that has ended, and the chip's address counts as its own
 abbrev pub fresh : Family → (Side → Out) → Chip → Real
-fresh f before c = record { chip = c; convs = λ p. opening (port_at f p 0) (end (before p)) }
+fresh f before c =
+    record { chip = c; ports = λ p. at_port (opening (port_at f p 0) (end (before p))) true c.selected; touches = [] }
 
--- a port of the model and a conversation say the same from here on
-abbrev pub Stands : {f : Family} → State f → Talk Out → Type 0
-Stands (idle well) t = (r : Out) × (t ≡ end r)
-Stands (out well a c o m) t = t ≡ ask a c
-Stands (inside well x seen a c k m) t = t ≡ and_then (ask a c) k
+-- the table t, fed the touches: a write puts its word at its own address
+unfoldable pub fed : (ℕ → ℕ) → List Touch → ℕ → ℕ
+fed t [] = t
+fed t (got a v ∷ l) = fed t l
+fed t (wrote a v ∷ l) = put a v (fed t l)
 
-pub record Tied {f : Family} (s : Sys f) (r : Real) : Type 0 where
-  pub chip : r.chip ≡ s.chip
-  pub stands : (p : Side) → Stands (s.ports p) (r.convs p).talk
+-- each read got the word that the table had at its own address
+unfoldable pub Answered : (ℕ → ℕ) → List Touch → Type 0
+Answered t [] = Unit {0}
+Answered t (got a v ∷ l) = (v ≡ fed t l a) × Answered t l
+Answered t (wrote a v ∷ l) = Answered t l
 
--- demand 3 of the code: the model's calls are mixed, and after every list of events the code's chip and conversations are the model's
-pub record OfTheCode (f : Family) : Type 0 where
-  pub mixes : Demand3 10 f
-  pub tied : (made : Parts 10 f) (before : Side → Out) (bits address : ℕ) (regs : ℕ → ℕ) (es : List (Event Asked))
-      → Tied (run f (ops_of 10 f made) es (starting (free bits address regs))) (run_real f es (fresh f before (free bits address regs)))
+-- what demand 3 says of the end of a list of events, from a chip with the KR registers `regs`
+pub record Served (regs : ℕ → ℕ) (s : Real) : Type 0 where
+  -- the KR registers are the table, fed the touches of DATA in order
+  pub registers : (a : ℕ) → s.chip.kr a ≡ fed regs s.touches a
+  -- each read of DATA got what the table had
+  pub answers : Answered regs s.touches
+  -- a port whose calls all were refused or ended with no error, and whose last one has ended, owns no semaphore bit
+  pub owns : (p : Side) (o : Out) → (s.ports p).well ≡ true → (s.ports p).conv.talk ≡ end o
+      → (i : ℕ) → (s.chip.swsm.owner i ≡ of_port p → ⊥) × (s.chip.sync.owner i ≡ of_port p → ⊥)
+
+-- demand 3 of the code: every list of events from every free chip
+abbrev pub OfTheCode : Family → Type 0
+OfTheCode f = (before : Side → Out) (bits address : ℕ) (regs : ℕ → ℕ) (es : List (Event Asked))
+    → Served regs (run_real f es (fresh f before (free bits address regs)))

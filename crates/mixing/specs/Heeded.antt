@@ -12,7 +12,7 @@ use Rattle.operations.specs.declared.Operation.{Operation}
 use Rattle.reference.specs.Sync.{acquire_bits, release_bits}
 use Rattle.mixing.specs.Mixing.{takes}
 use Rattle.mixing.specs.Model.{Kind, is_swsm, is_sync, is_ctrl, is_data, is_other, On}
-use Rattle.mixing.specs.System.{is_ok}
+use Rattle.mixing.specs.Events.{is_ok}
 
 -- a call of one of the two
 pub data LockCall : Type 0 where

@@ -1,8 +1,10 @@
 pub mod Model
-pub mod System
+pub mod Events
 pub mod Operations
+pub mod System
 pub mod Mixing
 pub mod Heeded
 pub mod Alone
 pub mod Conversations
+pub mod Tie
 pub mod Turns

@@ -7,9 +7,10 @@ use Rattle.reference.specs.Out.{Out}
 use Rattle.operations.specs.Addresses.{refused}
 use Rattle.operations.specs.Operations.{operation_with}
 use Rattle.operations.specs.declared.Operation.{Operation}
-use Rattle.mixing.specs.Model.{Side, lan0, lan1, of_port, put, free, Chip}
-use Rattle.mixing.specs.Operations.{mixable}
-use Rattle.mixing.specs.System.{Access, reads, writes, Given, Made, is_ok, idle, Entry, touched, gave, Sys, Begun, Event, run}
+use Rattle.mixing.specs.Model.{Side, of_port, put, free, Chip}
+use Rattle.mixing.specs.Operations.{mixable, Asked, port_at}
+use Rattle.mixing.specs.Events.{is_ok, Touch, got, wrote, Event}
+use Rattle.mixing.specs.System.{Access, reads, writes, Given, Made, idle, Entry, touched, gave, Sys, Begun, run}
 
 -- a write puts its word at its address
 abbrev pub feed : Access → (ℕ → ℕ) → ℕ → ℕ
@@ -19,13 +20,16 @@ feed (writes who a w) t = put a w t
 -- the table t, fed the touches of a record
 unfoldable pub table : (ℕ → ℕ) → List Entry → ℕ → ℕ
 table t [] = t
-table t (touched x s v ∷ l) = feed x (table t l)
+table t (touched x s d ∷ l) = feed x (table t l)
 table t (gave x s r ∷ l) = table t l
 
--- a read of DATA got the word that the table has at the access's address, a write put the access's word
-abbrev pub RightTouch : Access → (ℕ → ℕ) → ℕ → Type 0
-RightTouch (reads who a) t v = v ≡ t a
-RightTouch (writes who a w) t v = v ≡ w
+-- The port had itself selected the access's address. A read access reads, and got the word that the table has there; a write
+-- access writes, and wrote the access's word
+abbrev pub RightTouch : Access → (ℕ → ℕ) → Touch → Type 0
+RightTouch (reads who a) t (got b v) = (b ≡ a) × (v ≡ t a)
+RightTouch (reads who a) t (wrote b v) = ⊥
+RightTouch (writes who a w) t (got b v) = ⊥
+RightTouch (writes who a w) t (wrote b v) = (b ≡ a) × (v ≡ w)
 
 -- a read access that succeeded gave the word that it got from DATA
 abbrev pub RightGave : (x : Access) → Option ℕ → Res (Given x) → Type 0
@@ -36,7 +40,7 @@ RightGave (writes who a w) s r = Unit {0}
 -- at each entry, with the table as it was then; an access touches DATA once
 unfoldable pub Right : (ℕ → ℕ) → List Entry → Type 0
 Right t [] = Unit {0}
-Right t (touched x s v ∷ l) = (s ≡ None) × RightTouch x (table t l) v × Right t l
+Right t (touched x s d ∷ l) = (s ≡ None) × RightTouch x (table t l) d × Right t l
 Right t (gave x s r ∷ l) = RightGave x s r × Right t l
 
 -- what demand 3 says of the end of a list of events, from a chip with the KR registers `regs`
@@ -49,26 +53,11 @@ pub record Mixed {f : Family} (regs : ℕ → ℕ) (s : Sys f) : Type 0 where
   pub owns : (p : Side) → s.ports p ≡ idle true → (i : ℕ) → (s.chip.swsm.owner i ≡ of_port p → ⊥) × (s.chip.sync.owner i ≡ of_port p → ⊥)
 
 abbrev pub starting : {f : Family} → Chip → Sys f
-starting c = record { chip = c; ports = λ _. idle true; log = [] }
+starting c = record { chip = c; ports = λ _. idle true; own = λ _. c.selected; log = [] }
 
 -- every list of events from every free chip
 abbrev pub Mixing : {O : Type 0} (f : Family) → (Side → O → Option (Begun f)) → Type 0
 Mixing {O} f ops = (bits address : ℕ) (regs : ℕ → ℕ) (es : List (Event O)) → Mixed regs (run f ops es (starting (free bits address regs)))
-
--- the 23 operations of document 01 that are mixed
-
--- a call of `begin`, beside the port's lan: device id, operation with its arguments, host block
-pub record Asked : Type 0 where
-  pub device : ℕ
-  pub what : Operation
-  pub block : List ℕ
-
-abbrev pub number : Side → ℕ
-number lan0 = 0
-number lan1 = 1
-
-abbrev pub port_at : Family → Side → ℕ → Port
-port_at f p device = record { family = f; device = device; lan = number p }
 
 -- an operation that is mixed, and is not turned away by 20 to 23
 abbrev pub takes : Port → Operation → List ℕ → Bool

@@ -84,10 +84,12 @@ On K f (action.Read r) = K (kind f r)
 On K f (action.Write r v) = K (kind f r)
 On K f (action.Wait n) = Unit {0}
 
--- what is at will: CTRL's busy bit, and what any other register answers
+-- what is at will: CTRL's busy bit, and what any other register answers; and what a step after the end is handed
 pub record World : Type 0 where
   pub busy : Bool
   pub reply : Reply
+  pub kind : ℕ
+  pub value : ℕ
 
 -- CTRL: the address, busy at will, response 0. Busy (bit 31) and response (bits 18 and 19) are fields of their own, also
 -- where an address is so large that it has bits there
@@ -122,7 +124,7 @@ do_action f p w c (action.Read r) = do_read p w c (kind f r)
 do_action f p w c (action.Write r v) = do_write p w c v (kind f r)
 do_action f p w c (action.Wait n) = did 0 c
 
--- the firmware's bits: 4 to 8, 13 and 14
+-- the firmware's bits: 4 to 8, 13 and 14, as in the datasheets' table (proofs/Pairs.antt)
 abbrev pub fw_bits : ℕ
 fw_bits = 0x61f0
 

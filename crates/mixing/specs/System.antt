@@ -1,30 +1,13 @@
 -- Two ports on one chip, and every list of events
 use Rattle.hardware.specs.Talk.{Talk, end, ask, and_then, Res, Reply}
-use Rattle.std.specs.Prelude.{ℕ, ◌≡◌, Bool, true, false, List, [], ◌∷◌, Err, Ok, Option, None, Some}
+use Rattle.std.specs.Prelude.{ℕ, ◌≡◌, Bool, List, [], ◌∷◌, Option, None, Some}
 use Rattle.hardware.specs.declared.Action.{Action}
-use Rattle.hardware.specs.declared.Action.TheVariants as action
 use Rattle.hardware.specs.declared.Family.{Family}
 use Rattle.hardware.specs.declared.Port.{Port}
 use Rattle.reference.specs.Out.{Out}
 use Rattle.reference.specs.X552.{kr_read, kr_write}
-use Rattle.mixing.specs.Model.{
-  Side,
-  lan0,
-  lan1,
-  Kind,
-  is_swsm,
-  is_sync,
-  is_ctrl,
-  is_data,
-  is_other,
-  kind,
-  On,
-  World,
-  do_action,
-  Step,
-  do_firmware,
-  Chip,
-}
+use Rattle.mixing.specs.Events.{Touch, got, wrote, is_ok, ends_well, touch, own_then, change, Event, begin, act, firm}
+use Rattle.mixing.specs.Model.{Side, Kind, is_swsm, is_sync, is_ctrl, is_data, is_other, On, World, do_action, do_firmware, Chip}
 
 -- who makes an access: its sideband's wait, device id and lan
 pub record Caller : Type 0 where
@@ -74,23 +57,15 @@ pub data State (f : Family) : Type 0 where
   inside : (well : Bool) (x : Access) (seen : Option ℕ) (a : Action) (c : Reply → Talk (Res (Given x))) (k : Res (Given x) → Talk Out)
       → ((r : Res (Given x)) → Made f (k r)) → State f
 
--- What is put on record, the last first: a read or write of DATA with its access, what this access had seen before, and the
--- word; and the end of an access, with what it saw and what it gave
+-- What is put on record, the last first: a touch of DATA, with its access and the word of this access's touch before, if it
+-- had one; and the end of an access, with what it saw and what it gave
 pub data Entry : Type 0 where
-  touched : Access → (seen : Option ℕ) → (word : ℕ) → Entry
+  touched : Access → (seen : Option ℕ) → Touch → Entry
   gave : (x : Access) → (seen : Option ℕ) → Res (Given x) → Entry
 
 pub record Next (f : Family) : Type 0 where
   pub state : State f
   pub log : List Entry
-
-abbrev pub is_ok : {A : Type 0} → Res A → Bool
-is_ok (Ok a) = true
-is_ok (Err e) = false
-
-abbrev pub ends_well : Bool → Bool → Bool
-ends_well true well = well
-ends_well false well = false
 
 -- in an access: on to its next action, or to what comes after it
 abbrev pub resume : (f : Family) (well : Bool) (x : Access) (seen : Option ℕ) → Talk (Res (Given x)) → (k : Res (Given x) → Talk Out)
@@ -104,71 +79,45 @@ settle f well (done a) l = record { state = idle (ends_well (is_ok a.0) well); l
 settle f well (other {a} {c} o m) l = record { state = out well a c o m; log = l }
 settle f well (access x k e m) l = resume f well x None (access_talk f x) k m (λ r l'. settle f well (m r) l') l
 
-abbrev pub word : Reply → ℕ
-word (Ok v) = v
-word (Err v) = v.0
-
--- the word that an action read from DATA or wrote to it
-abbrev pub if_data : Kind → ℕ → Option ℕ
-if_data is_swsm v = None
-if_data is_sync v = None
-if_data is_ctrl v = None
-if_data is_data v = Some v
-if_data is_other v = None
-
-abbrev pub touch : Family → Action → Reply → Option ℕ
-touch f (action.Read r) a = if_data (kind f r) (word a)
-touch f (action.Write r v) a = if_data (kind f r) v
-touch f (action.Wait n) a = None
-
-abbrev pub seen_then : Option ℕ → Option ℕ → Option ℕ
+abbrev pub seen_then : Option Touch → Option ℕ → Option ℕ
 seen_then None s = s
-seen_then (Some v) s = Some v
+seen_then (Some (got a v)) s = Some v
+seen_then (Some (wrote a v)) s = Some v
 
-abbrev pub log_then : Access → Option ℕ → Option ℕ → List Entry → List Entry
+abbrev pub log_then : Access → Option Touch → Option ℕ → List Entry → List Entry
 log_then x None s l = l
-log_then x (Some v) s l = touched x s v ∷ l
+log_then x (Some t) s l = touched x s t ∷ l
 
+-- `own`: what each port last wrote to CTRL
 pub record Sys (f : Family) : Type 0 where
   pub chip : Chip
   pub ports : Side → State f
+  pub own : Side → ℕ
   pub log : List Entry
 
-abbrev pub change : {P : Type 0} → Side → P → (Side → P) → Side → P
-change lan0 d ps lan0 = d
-change lan0 d ps lan1 = ps lan1
-change lan1 d ps lan0 = ps lan0
-change lan1 d ps lan1 = d
-
-abbrev pub moved : {f : Family} → Side → Chip → Next f → Sys f → Sys f
-moved p c n s = record { chip = c; ports = change p n.state s.ports; log = n.log }
+abbrev pub moved : {f : Family} → Side → Chip → ℕ → Next f → Sys f → Sys f
+moved p c own n s = record { chip = c; ports = change p n.state s.ports; own = change p own s.own; log = n.log }
 
 -- an operation that is begun, taken apart
 pub record Begun (f : Family) : Type 0 where
   pub talk : Talk Out
   pub made : Made f talk
 
--- a port begins an operation, a port does its next action, the firmware does a step
-pub data Event (Op : Type 0) : Type 0 where
-  begin : Side → Op → Event Op
-  act : Side → World → Event Op
-  firm : Step → Event Op
-
 -- nothing after the end
 unfoldable pub acts : (f : Family) → Side → World → Sys f → State f → Sys f
 acts f p w s (idle well) = s
 acts f p w s (out well a c o m) =
     let d = do_action f p w s.chip a in
-    moved p d.chip (settle f well (m d.reply) s.log) s
+    moved p d.chip (own_then f a (s.own p)) (settle f well (m d.reply) s.log) s
 acts f p w s (inside well x seen a c k m) =
     let d = do_action f p w s.chip a in
-    let t = touch f a d.reply in
-    moved p d.chip (resume f well x (seen_then t seen) (c d.reply) k m (λ r l. settle f well (m r) l) (log_then x t seen s.log)) s
+    let t = touch f (s.own p) a d.reply in
+    moved p d.chip (own_then f a (s.own p)) (resume f well x (seen_then t seen) (c d.reply) k m (λ r l. settle f well (m r) l) (log_then x t seen s.log)) s
 
 -- nothing where it is refused, or one of the port's own is running
 unfoldable pub begins : (f : Family) → Side → Sys f → Option (Begun f) → State f → Sys f
 begins f p s None q = s
-begins f p s (Some g) (idle well) = moved p s.chip (settle f well g.made s.log) s
+begins f p s (Some g) (idle well) = moved p s.chip (s.own p) (settle f well g.made s.log) s
 begins f p s (Some g) (out well a c o m) = s
 begins f p s (Some g) (inside well x seen a c k m) = s
 
@@ -176,7 +125,7 @@ begins f p s (Some g) (inside well x seen a c k m) = s
 unfoldable pub step : {Op : Type 0} (f : Family) (ops : Side → Op → Option (Begun f)) → Event Op → Sys f → Sys f
 step f ops (begin p o) s = begins f p s (ops p o) (s.ports p)
 step f ops (act p w) s = acts f p w s (s.ports p)
-step f ops (firm i) s = record { chip = do_firmware i s.chip; ports = s.ports; log = s.log }
+step f ops (firm i) s = record { chip = do_firmware i s.chip; ports = s.ports; own = s.own; log = s.log }
 
 -- the list's first event first
 unfoldable pub run : {Op : Type 0} (f : Family) (ops : Side → Op → Option (Begun f)) → List (Event Op) → Sys f → Sys f

@@ -2,6 +2,7 @@
 use Rattle.access.specs.declared.access.Job.{Job}
 use Rattle.access.specs.Access.{told_job}
 use Rattle.hardware.specs.declared.Step.{Step}
+use Rattle.hardware.specs.Bits.{inverse}
 use Rattle.hardware.specs.Talk.{Call, Res, pick, ◌>>◌, return}
 use Rattle.std.specs.Prelude.{ℕ, ◌-◌, Bool, true, false, List}
 use Rattle.hardware.specs.declared.Port.{Port}
@@ -22,9 +23,9 @@ register_at a register keep set = record { phy = a.phy; device = 7; register = r
 
 -- what each call of `modify` is for
 abbrev pub register_of : Advertised → AdvertisePlace → Register
-register_of a place.Ten = register_at a 0x20 (0xffff - 0x1000) (bit 0x1000 a.speeds.g10)
+register_of a place.Ten = register_at a 0x20 (inverse 16 0x1000) (bit 0x1000 a.speeds.g10)
 register_of a place.One = register_at a 0xc400 (nbase_keep a.nbase) (nbase_set a.nbase a.speeds.g1)
-register_of a place.Hundred = register_at a 0x10 (0xffff - 0x180) (bit 0x100 a.speeds.m100)
+register_of a place.Hundred = register_at a 0x10 (inverse 16 0x180) (bit 0x100 a.speeds.m100)
 register_of a place.Restart = register_at a 0 0xffff 0x200
 
 abbrev pub advertise_hundred : Port → Advertised → Call Bool

@@ -34,6 +34,9 @@ fn bit(mask: u16, on: bool) -> u16
 }
 
 impl Advertise {
+    // ADVERTISE_VENDOR: 1 gigabit.
+    pub const ONE_G: u16 = 0x8000;
+
     #[tactic(auto, unfolding(reference::specs::Mdio::nbase_keep))]
     fn keep(nbase: Option<bool>) -> u16
         ensures { nbase_keep nbase ≡ result }
@@ -49,8 +52,8 @@ impl Advertise {
         ensures { nbase_set nbase g1 ≡ result }
     {
         match nbase {
-            None => bit(0x8000, g1),
-            Some(on) => bit(0xc00, on) | bit(0x8000, g1),
+            None => bit(Advertise::ONE_G, g1),
+            Some(on) => bit(0xc00, on) | bit(Advertise::ONE_G, g1),
         }
     }
 
@@ -73,7 +76,7 @@ impl Advertise {
         match place {
             AdvertisePlace::Ten => Advertise::at(
                 asked,
-                0x20,
+                Register::ADVERTISE_10G,
                 0xefff,
                 bit(0x1000, asked.speeds.g10),
             ),
@@ -81,18 +84,18 @@ impl Advertise {
                 let keep = Advertise::keep(asked.nbase);
                 Advertise::at(
                     asked,
-                    0xc400,
+                    Register::ADVERTISE_VENDOR,
                     keep,
                     Advertise::set(asked.nbase, asked.speeds.g1),
                 )
             }
             AdvertisePlace::Hundred => Advertise::at(
                 asked,
-                0x10,
+                Register::ADVERTISE_100,
                 0xfe7f,
                 bit(0x100, asked.speeds.m100),
             ),
-            AdvertisePlace::Restart => Advertise::at(asked, 0, 0xffff, 0x200),
+            AdvertisePlace::Restart => Advertise::at(asked, Register::CONTROL, 0xffff, 0x200),
         }
     }
 

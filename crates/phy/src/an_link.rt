@@ -19,7 +19,10 @@ impl AnLink {
     pub fn start(phy: u32, port: Port) -> Step<Job, AnLink, Result<bool, Error>>
         ensures { (b : List ℕ) → told_an_link port phy b result ≡ an_link port phy }
     {
-        Step::Ask(Job::ReadReg(phy, Register::AN, 1), AnLink::First)
+        Step::Ask(
+            Job::ReadReg(phy, Register::AN, Register::STATUS),
+            AnLink::First,
+        )
     }
 
     #[tactic(auto, using(hardware::proofs::Laws::then_assoc))]
@@ -34,7 +37,10 @@ impl AnLink {
         match (self, got) {
             (_, Err(e)) => Step::Done(Err(e)),
             (AnLink::First, Ok(_)) => {
-                Step::Ask(Job::ReadReg(phy, Register::AN, 1), AnLink::Second)
+                Step::Ask(
+                    Job::ReadReg(phy, Register::AN, Register::STATUS),
+                    AnLink::Second,
+                )
             }
             (AnLink::Second, Ok(v)) => Step::Done(Ok(v & 4 != 0)),
         }

@@ -22,7 +22,7 @@ impl Probe {
     pub fn first(phy: u32, port: Port) -> Job
         ensures { (b : List ℕ) → begun_probe port phy b result ≡ probe port phy }
     {
-        Job::ReadReg(phy, Register::PMA, 2)
+        Job::ReadReg(phy, Register::PMA, Register::ID_1)
     }
 
     pub fn start(phy: u32, port: Port) -> Step<Job, Probe, Result<Option<u32>, Error>>
@@ -38,7 +38,10 @@ impl Probe {
         if high == 0 || high == 0xffff {
             return Step::Done(Ok(None));
         }
-        Step::Ask(Job::ReadReg(phy, Register::PMA, 3), Probe::Low(high))
+        Step::Ask(
+            Job::ReadReg(phy, Register::PMA, Register::ID_2),
+            Probe::Low(high),
+        )
     }
 
     pub fn next(

@@ -25,7 +25,10 @@ impl Reset {
         ensures { (b : List ℕ) → told_reset port phy x557 b result ≡ reset_times port phy x557 left }
     {
         if left == 0 {
-            Step::Ask(Job::ReadReg(phy, Register::PHY_XS, 0), Reset::Checking)
+            Step::Ask(
+                Job::ReadReg(phy, Register::PHY_XS, Register::CONTROL),
+                Reset::Checking,
+            )
         } else {
             Step::Ask(Job::Wait(100_000), Reset::Waiting(left - 1))
         }
@@ -37,11 +40,14 @@ impl Reset {
     {
         if x557 {
             Step::Ask(
-                Job::ReadReg(phy, Register::PMA, 0xcc02),
+                Job::ReadReg(phy, Register::PMA, Register::TX_VENDOR_ALARMS_3),
                 Reset::Polling(left),
             )
         } else {
-            Step::Ask(Job::ReadReg(phy, Register::PHY_XS, 0), Reset::Polling(left))
+            Step::Ask(
+                Job::ReadReg(phy, Register::PHY_XS, Register::CONTROL),
+                Reset::Polling(left),
+            )
         }
     }
 
@@ -56,10 +62,10 @@ impl Reset {
         ensures { (b : List ℕ) → told_reset port phy x557 b result ≡ reset_seen port phy x557 left v }
     {
         if x557 {
-            if v & 3 == 0 {
+            if v & Register::RESET_DONE == 0 {
                 return Reset::again(phy, x557, port, left);
             }
-        } else if v & 0x8000 != 0 {
+        } else if v & Register::RESET as u32 != 0 {
             return Reset::again(phy, x557, port, left);
         }
         Step::Ask(Job::Wait(2), Reset::Settling)
@@ -68,7 +74,7 @@ impl Reset {
     fn checked(v: u32) -> Result<(), Error>
         ensures { reset_checked v ≡ end result }
     {
-        if v & 0x8000 == 0 {
+        if v & Register::RESET as u32 == 0 {
             Ok(())
         } else {
             Err(Error::PhyReset)
@@ -80,7 +86,7 @@ impl Reset {
         ensures { (b : List ℕ) → told_reset port phy x557 b result ≡ reset port phy x557 }
     {
         Step::Ask(
-            Job::WriteReg(phy, Register::PHY_XS, 0, 0x8000),
+            Job::WriteReg(phy, Register::PHY_XS, Register::CONTROL, Register::RESET),
             Reset::Starting,
         )
     }
@@ -101,7 +107,7 @@ impl Reset {
             (Reset::Waiting(left), Ok(_)) => Reset::poll(phy, x557, port, left),
             (Reset::Polling(left), Ok(v)) => Reset::seen(phy, x557, port, left, v),
             (Reset::Settling, Ok(_)) => {
-                let job = Job::ReadReg(phy, Register::PHY_XS, 0);
+                let job = Job::ReadReg(phy, Register::PHY_XS, Register::CONTROL);
                 Step::Ask(job, Reset::Checking)
             }
             (Reset::Checking, Ok(v)) => Step::Done(Reset::checked(v)),

@@ -1,8 +1,8 @@
 -- The closures that the Rust hands to `kr_modify` and `modify`, as they stand there: proofs/Closures.antt has that each one
 -- keeps and sets the bits that X552.antt, X553.antt and Mdio.antt say
-use Rattle.std.specs.Prelude.{ℕ, ◌-◌, Bool, Option, None, Some}
-use Rattle.std.specs.Int.Bits.{bit_and, bit_or}
-use Rattle.hardware.specs.Bits.{without}
+use Rattle.std.specs.Prelude.{ℕ, Bool, Option, None, Some}
+use Rattle.std.specs.Int.Bits.{bit_or}
+use Rattle.hardware.specs.Bits.{without, without_of}
 use Rattle.hardware.specs.Talk.{pick}
 
 -- x552.rs:160, both
@@ -55,17 +55,13 @@ sgmii_an_force v = without v (bit_or 0x80000 0x1000)
 abbrev pub sgmii_an_lane : ℕ → ℕ
 sgmii_an_lane v = bit_or (bit_or (bit_or (without v (bit_or 0x70000000 0x8000000)) 0x40000000) 0x2000000) 0x4000000
 
--- `v & !b` of 16-bit words
-abbrev pub without16 : ℕ → ℕ → ℕ
-without16 v b = bit_and v (0xffff - b)
-
 -- x552.rs:391
 abbrev pub unstall : ℕ → ℕ
-unstall v = without16 v 0x8000
+unstall v = without_of 16 v 0x8000
 
 -- mdio.rs:127
 abbrev pub bit : ℕ → ℕ → Bool → ℕ
-bit v mask on = pick on (bit_or v mask) (without16 v mask)
+bit v mask on = pick on (bit_or v mask) (without_of 16 v mask)
 
 -- mdio.rs:134
 abbrev pub ten : Bool → ℕ → ℕ
@@ -79,7 +75,7 @@ abbrev pub one : Option Bool → Bool → ℕ → ℕ
 one nbase g1 v = bit (nbased nbase v) 0x8000 g1
 
 abbrev pub hundred : Bool → ℕ → ℕ
-hundred m100 v = bit (without16 v 0x80) 0x100 m100
+hundred m100 v = bit (without_of 16 v 0x80) 0x100 m100
 
 abbrev pub restart16 : ℕ → ℕ
 restart16 v = bit_or v 0x200

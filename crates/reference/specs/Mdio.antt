@@ -1,6 +1,7 @@
 -- mdio.rs
 use Rattle.std.specs.Prelude.{ℕ, ◌+◌, ◌-◌, ◌/◌, ◌^◌, Bool, true, false, not, ◌||◌, eqb, Option, None, Some}
 use Rattle.std.specs.Int.Bits.{bit_and, bit_or}
+use Rattle.hardware.specs.Bits.{inverse}
 use Rattle.hardware.specs.Talk.{Call, ◌>>=◌, ◌>>◌, times, pick, is_clear, read, read_raw, write, delay, return, fail}
 use Rattle.hardware.specs.declared.Error.TheVariants.{Timeout, PhyReset}
 use Rattle.hardware.specs.declared.Family.{Family}
@@ -151,8 +152,8 @@ bit mask on = pick on mask 0
 
 -- 7.c400's bits 10 and 11, 5G and 2.5G: kept, or both set or cleared
 unfoldable pub nbase_keep : Option Bool → ℕ
-nbase_keep None = 0xffff - 0x8000
-nbase_keep (Some _) = 0xffff - 0x8c00
+nbase_keep None = inverse 16 0x8000
+nbase_keep (Some _) = inverse 16 0x8c00
 
 unfoldable pub nbase_set : Option Bool → Bool → ℕ
 nbase_set None g1 = bit 0x8000 g1
@@ -168,9 +169,9 @@ advertise_restart port phy =
 unfoldable pub advertise : Port → ℕ → Speeds → Option Bool → Bool → Call Bool
 advertise port phy s nbase veto =
     do
-      modify port phy 7 0x20 (0xffff - 0x1000) (bit 0x1000 s.g10)
+      modify port phy 7 0x20 (inverse 16 0x1000) (bit 0x1000 s.g10)
       modify port phy 7 0xc400 (nbase_keep nbase) (nbase_set nbase s.g1)
-      modify port phy 7 0x10 (0xffff - 0x180) (bit 0x100 s.m100)
+      modify port phy 7 0x10 (inverse 16 0x180) (bit 0x100 s.m100)
       pick veto (return false) (advertise_restart port phy)
 
 -- mdio.rs:149

@@ -1,7 +1,7 @@
 -- x552.rs, with no SFP; `Watch` is in Watch.antt. `pause` is the wait of `iosf_idle`, in microseconds
-use Rattle.std.specs.Prelude.{ℕ, ◌-◌, ◌/◌, ◌%◌, ◌^◌, Bool, true, false, [], ◌∷◌, eqb, Option, None, Some}
+use Rattle.std.specs.Prelude.{ℕ, ◌/◌, ◌%◌, ◌^◌, Bool, true, false, [], ◌∷◌, eqb, Option, None, Some}
 use Rattle.std.specs.Int.Bits.{bit_or}
-use Rattle.hardware.specs.Bits.{without}
+use Rattle.hardware.specs.Bits.{without, inverse}
 use Rattle.hardware.specs.Talk.{Call, ◌>>=◌, ◌>>◌, times, pick, is_clear, read, read_raw, write, delay, return, fail}
 use Rattle.hardware.specs.declared.Error.TheVariants.{Timeout, Sideband, NoPhy}
 use Rattle.hardware.specs.declared.Family.{Family}
@@ -77,22 +77,18 @@ kr_modify pause port port0 keep set =
       v ← kr_read pause port (krm port.lan port0)
       kr_modified pause port (krm port.lan port0) (changed keep set v)
 
--- all bits but these
-abbrev pub but : ℕ → ℕ
-but bits = 0xffffffff - bits
-
 abbrev pub restart_lane : ℕ → Port → ℕ → Family → Call ℕ
 restart_lane pause port lc1 X552 = return lc1
 restart_lane pause port lc1 X553 =
     do
-      kr_modify pause port 0x5054 (but 0) 0x80000000
+      kr_modify pause port 0x5054 (inverse 32 0) 0x80000000
       return lc1
 
 -- x552.rs:160
 unfoldable pub restart_an : ℕ → Port → Call ℕ
 restart_an pause port =
     do
-      lc1 ← kr_modify pause port 0x420c (but 0) 0x80000000
+      lc1 ← kr_modify pause port 0x420c (inverse 32 0) 0x80000000
       restart_lane pause port lc1 port.family
 
 abbrev pub restarted : ℕ → Port → ℕ → Call ℕ
@@ -109,14 +105,14 @@ abbrev pub kr_autoneg_lane : ℕ → Port → ℕ → Family → Call ℕ
 kr_autoneg_lane pause port lc1 X552 = restarted pause port lc1
 kr_autoneg_lane pause port lc1 X553 =
     do
-      kr_modify pause port 0x5054 (but 0x76000000) 0x48000000
+      kr_modify pause port 0x5054 (inverse 32 0x76000000) 0x48000000
       restarted pause port lc1
 
 -- x552.rs:172
 unfoldable pub kr_autoneg : ℕ → Port → Bool → Bool → Call ℕ
 kr_autoneg pause port kr kx =
     do
-      lc1 ← kr_modify pause port 0x420c (but 0x5c000) (kr_autoneg_set kr kx)
+      lc1 ← kr_modify pause port 0x420c (inverse 32 0x5c000) (kr_autoneg_set kr kx)
       kr_autoneg_lane pause port lc1 port.family
 
 -- FORCE_10G or FORCE_1G
@@ -127,11 +123,11 @@ ixfi_set ten_gig = pick ten_gig 0x400 0x200
 unfoldable pub ixfi : ℕ → Port → Bool → Call ℕ
 ixfi pause port ten_gig =
     do
-      lc1 ← kr_modify pause port 0x420c (but 0x2000c700) (ixfi_set ten_gig)
-      kr_modify pause port 0x4b00 (but 0) 0x10
-      kr_modify pause port 0x4634 (but 0x18040) 0
-      kr_modify pause port 0x4638 (but 0x18040) 0
-      kr_modify pause port 0x5520 (but 0) 0x8000000e
+      lc1 ← kr_modify pause port 0x420c (inverse 32 0x2000c700) (ixfi_set ten_gig)
+      kr_modify pause port 0x4b00 (inverse 32 0) 0x10
+      kr_modify pause port 0x4634 (inverse 32 0x18040) 0
+      kr_modify pause port 0x4638 (inverse 32 0x18040) 0
+      kr_modify pause port 0x5520 (inverse 32 0) 0x8000000e
       restarted pause port lc1
 
 abbrev pub nvm_body : ℕ → Call ℕ
@@ -179,7 +175,7 @@ abbrev pub prepare_alarms : Port → Bool → ℕ → ℕ → ℕ → ℕ → Ca
 prepare_alarms port veto phy id sel alarms =
     pick (is_clear alarms 3) (prepare_reset port veto phy id sel false)
     (do
-      modify port phy 0x1e 0xc479 (0xffff - 0x8000) 0
+      modify port phy 0x1e 0xc479 (inverse 16 0x8000) 0
       prepare_reset port veto phy id sel true)
 
 abbrev pub prepare_found : Port → Bool → ℕ → ℕ → ℕ → Call X557

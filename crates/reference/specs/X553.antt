@@ -1,6 +1,7 @@
 -- x553.rs, with no SFP. `pause` is the wait of `iosf_idle`, in microseconds
 use Rattle.std.specs.Prelude.{ℕ, Bool, true, false, not, ◌||◌, eqb, Option, None, Some}
 use Rattle.std.specs.Int.Bits.{bit_and, bit_or}
+use Rattle.hardware.specs.Bits.{inverse}
 use Rattle.hardware.specs.Talk.{Call, ◌>>=◌, ◌>>◌, pick, is_clear, read, return, fail}
 use Rattle.hardware.specs.declared.Error.TheVariants.{NoPhy}
 use Rattle.hardware.specs.declared.Port.{Port}
@@ -11,7 +12,7 @@ use Rattle.answers.specs.declared.Setup553.TheVariants as setupv
 use Rattle.answers.specs.declared.Words.{Words}
 use Rattle.answers.specs.declared.X557.{X557}
 use Rattle.reference.specs.Hostif.{phy_activity}
-use Rattle.reference.specs.X552.{kr_modify, kr_write, but, restart_an, kr_autoneg, mdio_clock, prepare_copper, vetoed}
+use Rattle.reference.specs.X552.{kr_modify, kr_write, restart_an, kr_autoneg, mdio_clock, prepare_copper, vetoed}
 use Rattle.reference.specs.X552 as x552
 
 -- x553.rs:57
@@ -89,9 +90,9 @@ after_reset port = set_mdio_speed port.device (return tt)
 unfoldable pub sgmii : ℕ → Port → Call Setup553
 sgmii pause port =
     do
-      lc1 ← kr_modify pause port 0x420c (but 0x20000700) 0x3200
-      forced ← kr_modify pause port 0x42a0 (but 0) 0x81000
-      lane ← kr_modify pause port 0x5054 (but 0x78000000) 0x26000000
+      lc1 ← kr_modify pause port 0x420c (inverse 32 0x20000700) 0x3200
+      forced ← kr_modify pause port 0x42a0 (inverse 32 0) 0x81000
+      lane ← kr_modify pause port 0x5054 (inverse 32 0x78000000) 0x26000000
       restart_an pause port
       return (setupv.Sgmii (record { link_ctrl = lc1; sgmii = forced; flx = lane }))
 
@@ -99,10 +100,10 @@ sgmii pause port =
 unfoldable pub sgmii_an : ℕ → Port → Call ℕ
 sgmii_an pause port =
     do
-      lc1 ← kr_modify pause port 0x420c (but 0x20000700) 0x3000
-      kr_modify pause port 0x42a0 (but 0x81000) 0
+      lc1 ← kr_modify pause port 0x420c (inverse 32 0x20000700) 0x3000
+      kr_modify pause port 0x42a0 (inverse 32 0x81000) 0
       kr_write pause port (krm port.lan 0x420c) lc1
-      flx ← kr_modify pause port 0x5054 (but 0x78000000) 0x46000000
+      flx ← kr_modify pause port 0x5054 (inverse 32 0x78000000) 0x46000000
       restart_an pause port
       return flx
 

@@ -58,8 +58,8 @@ pub fn advance_of(
         return Command::synced(call.port, place, step);
     }
     match act(h, a, replies, t) {
-        None => Step::Ask(a, s),
-        Some(reply) => s.next_of(call.words, call.port, block, reply),
+        Err(_) => Step::Ask(a, s),
+        Ok(reply) => s.next_of(call.words, call.port, block, reply),
     }
 }
 

@@ -46,8 +46,8 @@ pub fn single<M: Lent>(
     ensures { Moves replies.now (ask a (M.resume context s block.old)) (tape h.old t.old) (told_by (M.end context block.new) (λ s r. M.resume context s block.new r) result) (tape h.new t.new) }
 {
     match act(h, a, replies, t) {
-        None => Step::Ask(a, s),
-        Some(reply) => s.next(context, block, reply),
+        Err(_) => Step::Ask(a, s),
+        Ok(reply) => s.next(context, block, reply),
     }
 }
 

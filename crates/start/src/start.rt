@@ -87,7 +87,7 @@ fn write_reg(
 fn abilities(port: Port, phy: u32) -> Step<Job, After, Ended<Value>>
     ensures { (b : List ℕ) → told_after port b result ≡ operation port (ops.Abilities phy) [] }
 {
-    let job = Job::ReadReg(phy, Register::PMA, 4);
+    let job = Job::ReadReg(phy, Register::PMA, Register::SPEEDS);
     Step::Ask(job, After::Abilities)
 }
 

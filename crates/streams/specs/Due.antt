@@ -1,5 +1,7 @@
 -- The reply that is due
 use Rattle.std.specs.Prelude.{ℕ, List, Option, Some, None, Result, Ok, Err}
+use Rattle.hardware.specs.Numbers.{stop_number}
+use Rattle.hardware.specs.declared.Stop.TheVariants as stop
 use Rattle.text.specs.Words.{words}
 use Rattle.lines.specs.Reply.{reply_of}
 use Rattle.streams.specs.Part.{part_of}
@@ -11,8 +13,8 @@ use Rattle.streams.specs.declared.due.Fault.{Fault}
 use Rattle.streams.specs.declared.due.Fault.TheVariants.{BadLine, NoReply}
 
 abbrev pub number : Fault → ℕ
-number BadLine = 25
-number NoReply = 26
+number BadLine = stop_number stop.BadReply
+number NoReply = stop_number stop.NoReply
 
 abbrev pub due_reply : Option (ℕ × ℕ) → Result (ℕ × ℕ) Fault
 due_reply (Some pair) = Ok pair

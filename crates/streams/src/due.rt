@@ -8,15 +8,15 @@ ghost use Rattle.streams.specs.declared.input.Fetched.{Fetched};
 use crate::input::{Fetched, Input, Next, fetch};
 use crate::part::part;
 use drive::uses_of;
-use hardware::Action;
+use hardware::{Action, Stop};
 use lines::reply::reply_line;
 use std::io::Read;
 
 // Why a listing stops at a reply that is due: the line cannot be read, or there is none.
 #[derive(Clone, Copy)]
 pub enum Fault {
-    BadLine = 25,
-    NoReply = 26,
+    BadLine,
+    NoReply,
 }
 
 impl Fault {
@@ -24,7 +24,10 @@ impl Fault {
     pub fn number(self) -> u32
         ensures { number self ≡ result }
     {
-        self as u32
+        match self {
+            Fault::BadLine => Stop::BadReply.number(),
+            Fault::NoReply => Stop::NoReply.number(),
+        }
     }
 }
 

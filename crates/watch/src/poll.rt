@@ -169,7 +169,10 @@ impl Poll {
             Step::Ask(job, s) => Step::Ask(job, Poll::First(s)),
             Step::Done(Err(e)) => Step::Done(Err(e)),
             Step::Done(Ok(true)) => {
-                Step::Ask(Job::ReadReg(watch.phy, Register::AN, 0xc800), Poll::Status)
+                Step::Ask(
+                    Job::ReadReg(watch.phy, Register::AN, Register::VENDOR_STATUS),
+                    Poll::Status,
+                )
             }
             Step::Done(Ok(false)) => Poll::down(watch, port),
         }

@@ -1,14 +1,12 @@
--- Every case of the table holds, by one computed test
+-- Every case of a table holds, by one computed test
 use Rattle.std.proofs.Common.{◌≡◌, ℕ, Bool, true, false, ◌&&◌, T, eqb, List, [], ◌∷◌, sym, refl, ap, ◌∙◌, ap₂, eqb→eq}
 use mathlib.Core.List.{Memᴰ}
 use Rattle.hardware.specs.Bits.{bit}
-use Rattle.hardware.specs.Refusal.{refusal}
 use Rattle.words.specs.Semaphore.{software, firmware, flash}
 use Rattle.words.specs.Kr.{krm}
-use Rattle.words.specs.Mdio.{command}
 use Rattle.words.specs.Phy.{phy_id, identifier}
-use Rattle.words.specs.Link.{link_of, copper}
-use Rattle.words.specs.Hostif.{nvm_address, swap_bytes, fits}
+use Rattle.words.specs.Link.{link_of}
+use Rattle.words.specs.Hostif.{fits}
 use Rattle.words.specs.Cases.{Case, cases}
 
 abbrev same : List ℕ → List ℕ → Bool
@@ -17,7 +15,7 @@ same [] (y ∷ ys) = false
 same (x ∷ xs) [] = false
 same (x ∷ xs) (y ∷ ys) = eqb x y && same xs ys
 
-abbrev all_same : List Case → Bool
+abbrev pub all_same : List Case → Bool
 all_same [] = true
 all_same (c ∷ cs) = same c.computed c.expected && all_same cs
 
@@ -36,7 +34,7 @@ same_equal (x ∷ xs) [] t = absurd t
 same_equal (x ∷ xs) (y ∷ ys) t =
     ap₂ ◌∷◌ (eqb→eq x y (left (eqb x y) (same xs ys) t)) (same_equal xs ys (right (eqb x y) (same xs ys) t))
 
-each : (cs : List Case) → T (all_same cs) → (c : Case) → Memᴰ c cs → c.computed ≡ c.expected
+pub each : (cs : List Case) → T (all_same cs) → (c : Case) → Memᴰ c cs → c.computed ≡ c.expected
 each [] t c m = elim m [ ]
 each (d ∷ cs) t c (Memᴰ.head e) =
     ap (λ x. x.computed) e ∙ same_equal d.computed d.expected (left (same d.computed d.expected) (all_same cs) t)
@@ -44,5 +42,5 @@ each (d ∷ cs) t c (Memᴰ.head e) =
 each (d ∷ cs) t c (Memᴰ.tail m) = each cs (right (same d.computed d.expected) (all_same cs) t) c m
 
 pub every_case : (c : Case) → Memᴰ c cases → c.computed ≡ c.expected
-unfolding cases software firmware flash krm command phy_id identifier link_of copper nvm_address swap_bytes fits bit refusal
+unfolding cases software firmware flash krm phy_id identifier link_of fits bit
 every_case = each cases tt

@@ -1,18 +1,14 @@
--- The proved cases of document 01: what the definitions give, and what the document says
-use Rattle.std.specs.Prelude.{ℕ, Bool, true, false, List, [], ◌∷◌, ◌++◌, Option, None, Some, Ok, Err}
-use Rattle.hardware.specs.Talk.{Res}
-use Rattle.hardware.specs.Numbers.{number}
-use Rattle.hardware.specs.Refusal.{refusal}
+-- The proved cases of document 01 that are of words alone: what the definitions give, and what the document says. The table of
+-- all, with those of operations, is that of crate calls
+use Rattle.std.specs.Prelude.{ℕ, Bool, true, false, List, [], ◌∷◌, ◌++◌, Option, None, Some}
 use Rattle.hardware.specs.declared.Family.TheVariants.{X552, X553}
-use Rattle.hardware.specs.declared.Port.{Port}
 use Rattle.words.specs.declared.link.Link.{Link}
 use Rattle.words.specs.declared.link.Link.TheVariants as link
 use Rattle.words.specs.Semaphore.{software, firmware, flash}
 use Rattle.words.specs.Kr.{krm}
-use Rattle.words.specs.Mdio.{cycle}
 use Rattle.words.specs.Phy.{phy_id}
-use Rattle.words.specs.Link.{link_of, copper}
-use Rattle.words.specs.Hostif.{nvm_address, fits}
+use Rattle.words.specs.Link.{link_of}
+use Rattle.words.specs.Hostif.{fits}
 
 -- as in the listing: an absent option is 0, a present one 1 and its value; a truth value is 0 or 1
 abbrev truth : Bool → List ℕ
@@ -32,20 +28,12 @@ link_words (link.Up m) = maybe_words m
 abbrev links_words : ℕ → List ℕ
 links_words links = link_words (link_of X552 links) ++ link_words (link_of X553 links)
 
--- 0 for a call that is taken, else the number that refuses it
-abbrev refusal_number : Res (Unit {0}) → ℕ
-refusal_number (Ok _) = 0
-refusal_number (Err e) = number e
-
-abbrev copper_port : Port
-copper_port = record { family = X552; device = 0x15ad; lan = 0 }
-
 pub record Case : Type 0 where
   pub at : ℕ
   pub computed : List ℕ
   pub expected : List ℕ
 
-abbrev case : ℕ → List ℕ → List ℕ → Case
+abbrev pub case : ℕ → List ℕ → List ℕ → Case
 case n c e = record { at = n; computed = c; expected = e }
 
 unfoldable pub cases : List Case
@@ -54,11 +42,7 @@ cases =
     ∷ case 2 (software 1 ∷ firmware 1 ∷ flash 1 ∷ []) (1 ∷ 0x20 ∷ 0x10 ∷ [])
     ∷ case 3 (software 0x1806 ∷ firmware 0x1806 ∷ []) (0x1806 ∷ 0x60c0 ∷ [])
     ∷ case 4 (krm 1 0x420c ∷ []) (0x820c ∷ [])
-    ∷ case 5 (cycle 3 3 7 0xc800 true ∷ []) (0x4c67c800 ∷ [])
-    ∷ case 6 (refusal_number (refusal copper_port 31 0 0) ∷ refusal_number (refusal copper_port 32 0 0) ∷ []) (0 ∷ 22 ∷ [])
     ∷ case 7 (maybe_words (phy_id 0x0154 0xb242) ++ maybe_words (phy_id 0 0xb242) ++ maybe_words (phy_id 0xffff 0xb242)) (1 ∷ 0x0154b240 ∷ 0 ∷ 0 ∷ [])
-    ∷ case 8 (maybe_words (copper 7) ++ maybe_words (copper 5) ++ maybe_words (copper 3)) (1 ∷ 10000 ∷ 1 ∷ 1000 ∷ 0 ∷ [])
-    ∷ case 9 (nvm_address 0x2c ∷ nvm_address 0xffff ∷ []) (0x58000000 ∷ 0xfeff0100 ∷ [])
     ∷ case 10 (truth (fits 4 2) ++ truth (fits 5 2)) (1 ∷ 0 ∷ [])
     ∷ case 11 (links_words 0x60000000 ++ links_words 0x78000000) (1 ∷ 1000 ∷ 1 ∷ 1000 ∷ 1 ∷ 2500 ∷ 1 ∷ 2500 ∷ [])
     ∷ []

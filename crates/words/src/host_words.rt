@@ -2,14 +2,14 @@
 ghost use Rattle.std.specs.Prelude.{◌≡◌};
 ghost use Rattle.words.specs.Hostif.{flex_mng, swap_bytes, nvm_address, fits, reply_words};
 
-pub const FLEX_MNG: u32 = 0x15800;
+use hardware::Port;
 
 // The register of the host block's word i. A block above 2^30 words wraps, as in the Rust's release build.
 pub fn flex_mng(i: usize) -> u32
     ensures { flex_mng i ≡ result }
 {
     let low = (i % 0x4000_0000) as u32;
-    FLEX_MNG.wrapping_add(4 * low)
+    Port::FLEX_MNG.wrapping_add(4 * low)
 }
 
 #[tactic(auto, unfolding(crate::specs::Hostif::swap_bytes))]

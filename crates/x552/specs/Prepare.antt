@@ -2,6 +2,7 @@
 use Rattle.access.specs.declared.access.Job.{Job}
 use Rattle.access.specs.Access.{told_job}
 use Rattle.hardware.specs.declared.Step.{Step}
+use Rattle.hardware.specs.Bits.{inverse}
 use Rattle.hardware.specs.Talk.{Call, Res, end, ◌>>=◌, ◌>>◌, read, return}
 use Rattle.std.specs.Prelude.{ℕ, ◌-◌, ◌/◌, ◌%◌, ◌^◌, Bool, true, false, List, Option}
 use Rattle.hardware.specs.declared.Managed.{Managed}
@@ -23,7 +24,7 @@ abbrev pub sel_phy : ℕ → ℕ
 sel_phy sel = sel / 2 ^ 3 % 32
 
 abbrev pub stall_of : Phy → Register
-stall_of f = record { phy = f.phy; device = 0x1e; register = 0xc479; keep = 0xffff - 0x8000; set = 0 }
+stall_of f = record { phy = f.phy; device = 0x1e; register = 0xc479; keep = inverse 16 0x8000; set = 0 }
 
 -- the Rust's functions, of the PHY that was found
 abbrev pub prepared_of : Port → Phy → Bool → Bool → X557

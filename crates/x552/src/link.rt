@@ -14,6 +14,7 @@ use kr::sequence::{KrPlace, Sequence};
 use phy::abilities::speeds_of;
 use phy::advertise::Advertise;
 use phy::an_link::AnLink;
+use words::link::Link;
 
 // What copper_link is given, at its start and at each reply.
 #[derive(Clone, Copy)]
@@ -136,7 +137,7 @@ impl CopperLink {
     ) -> Step<Job, CopperLink, Result<CopperSetup, Error>>
         ensures { (b : List ℕ) → told_link call b result ≡ links_then call speeds left links }
     {
-        if links & 0x4000_0000 == 0 {
+        if links & Link::LINK_UP == 0 {
             return CopperLink::again(call, speeds, left);
         }
         let step = AnLink::start(call.x557.phy as u32, call.managed.port);
@@ -176,7 +177,7 @@ impl CopperLink {
         ensures { (b : List ℕ) → told_link call b result ≡ copper_link 10 call.managed.port call.managed.veto call.x557 }
     {
         Step::Ask(
-            Job::ReadReg(call.x557.phy as u32, Register::PMA, 4),
+            Job::ReadReg(call.x557.phy as u32, Register::PMA, Register::SPEEDS),
             CopperLink::Abilities,
         )
     }

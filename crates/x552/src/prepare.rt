@@ -44,6 +44,11 @@ pub enum PrepareCopper {
 impl Phy {
     pub const NW_MNG_IF_SEL: u32 = 0x1_1178;
 
+    // NW_MNG_IF_SEL: the internal link is KR; the port is set to 2.5 gigabits.
+    pub const INT_PHY_MODE: u32 = 0x100_0000;
+
+    pub const SPEED_2_5G: u32 = 0x10_0000;
+
     // The PHY that NW_MNG_IF_SEL names.
     fn of(sel: u32) -> u8
         ensures { sel_phy sel ≡ result }
@@ -57,7 +62,7 @@ impl Phy {
     {
         match family {
             Family::X552 => {
-                if sel & 0x100_0000 == 0 {
+                if sel & Phy::INT_PHY_MODE == 0 {
                     Internal::Ixfi
                 } else {
                     Internal::Kr
@@ -88,7 +93,7 @@ impl Phy {
         Register {
             phy: self.phy as u32,
             device: Register::VENDOR,
-            register: 0xc479,
+            register: Register::GLOBAL_RES,
             keep: 0x7fff,
             set: 0,
         }
@@ -152,7 +157,7 @@ impl PrepareCopper {
     ) -> Step<Job, PrepareCopper, Result<X557, Error>>
         ensures { (b : List ℕ) → told_prepare managed b result ≡ alarms_then managed found alarms }
     {
-        if alarms & 3 == 0 {
+        if alarms & Register::RESET_DONE == 0 {
             return PrepareCopper::reset(managed, found, false);
         }
         let step = Modify::start(found.stall(), managed.port);
@@ -177,7 +182,11 @@ impl PrepareCopper {
         ensures { (b : List ℕ) → told_prepare managed b result ≡ found_then managed found }
     {
         Step::Ask(
-            Job::ReadReg(found.phy as u32, Register::PMA, 0xcc02),
+            Job::ReadReg(
+                found.phy as u32,
+                Register::PMA,
+                Register::TX_VENDOR_ALARMS_3,
+            ),
             PrepareCopper::Alarms(found),
         )
     }

@@ -42,6 +42,9 @@ pub enum SetupFirmware {
 impl SetupFirmware {
     pub const GET_LINK_INFO: u16 = 3;
 
+    // GET_LINK_INFO's first word: the PHY is too hot.
+    pub const OVERTEMP: u32 = 0x200_0000;
+
     pub const FORCE_LINK_DOWN: u16 = 4;
 
     fn set(
@@ -98,7 +101,7 @@ impl SetupFirmware {
     ) -> Step<Job, SetupFirmware, Result<FirmwareSetup, Error>>
         ensures { told_firmware port block.new result ≡ info_done port phy flx out }
     {
-        if out.w0 & 0x200_0000 == 0 {
+        if out.w0 & SetupFirmware::OVERTEMP == 0 {
             SetupFirmware::set(port, phy, Some(flx), false)
         } else {
             SetupFirmware::down(port, phy, Some(flx), block)

@@ -25,19 +25,19 @@ impl Sgmii {
     fn ctrl() -> Change
         ensures { ctrl_of ≡ result }
     {
-        Change::of(Change::LINK_CTRL_1, 0x2000_0700, 0x3200)
+        Change::of(Change::LINK_CTRL_1, Change::AN_AND_SPEED, 0x3200)
     }
 
     fn force() -> Change
         ensures { force_of ≡ result }
     {
-        Change::of(Change::SGMII_CTRL, 0, 0x8_1000)
+        Change::of(Change::SGMII_CTRL, 0, Change::FORCE_10_AND_100)
     }
 
     fn lane() -> Change
         ensures { lane_of ≡ result }
     {
-        Change::of(Change::FLX, 0x7800_0000, 0x2600_0000)
+        Change::of(Change::FLX, Change::FLX_AN_AND_SPEED, 0x2600_0000)
     }
 
     #[tactic(auto, using(hardware::proofs::Laws::then_assoc))]

@@ -29,19 +29,19 @@ impl SgmiiAn {
     fn ctrl() -> Change
         ensures { ctrl_of ≡ result }
     {
-        Change::of(Change::LINK_CTRL_1, 0x2000_0700, 0x3000)
+        Change::of(Change::LINK_CTRL_1, Change::AN_AND_SPEED, 0x3000)
     }
 
     fn force() -> Change
         ensures { force_of ≡ result }
     {
-        Change::of(Change::SGMII_CTRL, 0x8_1000, 0)
+        Change::of(Change::SGMII_CTRL, Change::FORCE_10_AND_100, 0)
     }
 
     fn lane() -> Change
         ensures { lane_of ≡ result }
     {
-        Change::of(Change::FLX, 0x7800_0000, 0x4600_0000)
+        Change::of(Change::FLX, Change::FLX_AN_AND_SPEED, 0x4600_0000)
     }
 
     #[tactic(auto, using(hardware::proofs::Laws::then_assoc))]

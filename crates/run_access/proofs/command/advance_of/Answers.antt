@@ -12,5 +12,5 @@ returns-in-Sync c = let g = c.args in let b = take g.call.words g.block.now in
     moves_as (λ (s : Command). told_command g.call.port b (step.Ask g.a s)) c.in-Sync.is (c.synced.ensures b)
     (synced_moves g.call.port b c.in-Sync.place c.in-Sync.m c.run-step.result c.run-step.ensures)
 
-pub returns-in-Some : goal.returns-in-Some
-returns-in-Some c = told_as (sym c.next_of.ensures) (act_done c.act.ensures c.in-Some.is stays)
+pub returns-in-Ok : goal.returns-in-Ok
+returns-in-Ok c = told_as (sym c.next_of.ensures) (act_done c.act.ensures c.in-Ok.is stays)
