@@ -1,0 +1,10 @@
+pub mod RowLaws
+pub mod Counting
+pub mod Lowest
+pub mod Ends
+pub mod Failing
+pub mod Elements
+pub mod DecimalLaws
+pub mod KeptLaws
+pub mod Theorems
+pub mod Session

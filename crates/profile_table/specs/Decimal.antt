@@ -1,0 +1,21 @@
+-- Decimal words
+use Rattle.std.specs.Prelude.{ℕ, ◌+◌, ◌-◌, ◌*◌, cond, List, [], ◌∷◌, leb, length, Option, Some, None}
+use Rattle.std.specs.Option.{option_and_then}
+use Rattle.text.specs.Hex.{between}
+
+-- `0` to `9`
+abbrev pub digit : ℕ → Option ℕ
+digit b = cond (between 48 57 b) (Some (b - 48)) None
+
+-- the value of digits after some that are worth v
+unfoldable pub value : ℕ → List ℕ → Option ℕ
+value v [] = Some v
+value v (b ∷ bs) = option_and_then (λ d. value (10 * v + d) bs) (digit b)
+
+abbrev pub at_most : ℕ → Option ℕ → Option ℕ
+at_most n None = None
+at_most n (Some v) = cond (leb v n) (Some v) None
+
+-- one to three digits, at most 255
+unfoldable pub decimal_word : List ℕ → Option ℕ
+decimal_word word = cond (between 1 3 (length word)) (at_most 255 (value 0 word)) None

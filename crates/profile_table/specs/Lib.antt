@@ -1,0 +1,10 @@
+pub mod Rows
+pub mod Fault
+pub mod Table
+pub mod Search
+pub mod Taken
+pub mod Decimal
+pub mod Entry
+pub mod Answer
+pub mod Turn
+pub mod Session
