@@ -16,7 +16,7 @@ use Rattle.reference.specs.Out.{Out}
 use Rattle.operations.specs.Operations.{operation_with}
 use Rattle.mixing.specs.Heeded.{ended_well, Heeded}
 use Rattle.mixing.specs.Operations.{port_at}
-use Rattle.mixing.specs.Mixing.{table, Right, Mixed, starting, Mixing, takes, begun_if, ops_of, Demand3}
+use Rattle.mixing.specs.Mixing.{table, Right, Mixed, starting, Mixing, takes, begun_if, Parts, ops_of, Demand3}
 use Rattle.mixing.specs.Model.{Side, lan0, lan1, Owner, nobody, of_port, Chip, fw_bits, free}
 use Rattle.mixing.specs.Events.{is_ok, ends_well}
 use Rattle.mixing.specs.System.{Made, Sys, Begun}
@@ -39,7 +39,7 @@ free_ok bits address regs = record {
   fw_only = λ i e q. refl;
 }
 
-starts : (f : Family) (bits address : ℕ) (regs : ℕ → ℕ) → Inv f regs (starting (free bits address regs))
+pub starts : (f : Family) (bits address : ℕ) (regs : ℕ → ℕ) → Inv f regs (starting (free bits address regs))
 unfolding table Right
 starts f bits address regs = record {
   chip = free_ok bits address regs;
@@ -93,13 +93,16 @@ pub fit : (f : Family) (t : Talk Out) (b : Bool) (m : b ≡ true → Made f t) �
 fit f t true m s g e w W r = subst (λ h. Wp f (OpEnds w) W h.talk) (same_Some _ _ e) (fits (s refl) w W r)
 fit f t false m s g e w W r = let z : true ≡ false = cc in absurd (true≢false z)
 
+pub ops_fit : (pause : ℕ) (f : Family) (made : Parts pause f) → Fit f (λ _. 0) (ops_of pause f made)
+ops_fit pause f made p q =
+    let port = port_at f p q.device in
+    fit f (operation_with pause port q.what q.block) (takes port q.what q.block) (made p q) (sound pause port q.what q.block)
+
 pub demand_3 : (pause : ℕ) (f : Family) → Demand3 pause f
 demand_3 pause f =
     record {
       parts = λ p q h. (sound pause (port_at f p q.device) q.what q.block h).made;
-      mixes = λ made. mixing f (ops_of pause f made)
-          (λ p q. let port = port_at f p q.device in
-          fit f (operation_with pause port q.what q.block) (takes port q.what q.block) (made p q) (sound pause port q.what q.block));
+      mixes = λ made. mixing f (ops_of pause f made) (ops_fit pause f made);
     }
 
 pub heeded : Heeded

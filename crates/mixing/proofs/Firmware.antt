@@ -30,7 +30,8 @@ use Rattle.mixing.specs.Model.{
   do_step,
 }
 use Rattle.mixing.proofs.Lock.{is_false, good_without, and_left}
-use Rattle.mixing.proofs.Share.{is_port, nobodys, keep_after, free_after, ChipOk, Sees, is_set, grows, nine_31}
+use Rattle.mixing.proofs.Rule.{free_after}
+use Rattle.mixing.proofs.Share.{is_port, nobodys, keep_after, ChipOk, Sees, is_set, grows, nine_31}
 use Rattle.mixing.proofs.Wp.{View, Good}
 
 fw_owner : (q : Side) (old new : Bool) (o : Owner) → is_port q o ≡ false → is_port q (owned_by firmware old new o) ≡ false

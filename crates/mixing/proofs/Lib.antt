@@ -7,6 +7,7 @@ pub mod Heed
 pub mod Sound
 pub mod Kr
 pub mod Loc
+pub mod Rule
 pub mod Share
 pub mod Firmware
 pub mod Touch
@@ -22,4 +23,5 @@ pub mod Alone
 pub mod Pairs
 pub mod Examples
 pub mod Conversations
+pub mod Same
 pub mod Turns

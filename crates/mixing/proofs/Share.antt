@@ -12,7 +12,7 @@ use Rattle.hardware.specs.Bits.{bit}
 use Rattle.hardware.specs.declared.Action.{Action}
 use Rattle.hardware.specs.declared.Action.TheVariants as action
 use Rattle.hardware.specs.declared.Family.{Family}
-use Rattle.hardware.proofs.Bits.{bit-bit_or, both_bits}
+use Rattle.hardware.proofs.Bits.{bit-bit_or, bit_zero, both_bits}
 use Rattle.mixing.specs.Model.{
   Side,
   lan0,
@@ -24,7 +24,8 @@ use Rattle.mixing.specs.Model.{
   Word,
   owned_by,
   becomes,
-  stored,
+  stored_sync,
+  stored_swsm,
   Chip,
   with_swsm,
   with_sync,
@@ -43,8 +44,10 @@ use Rattle.mixing.specs.Model.{
   fw_bits,
 }
 use Rattle.mixing.specs.Events.{word}
+use Rattle.mixing.specs.Rule.{SameWord, SameAction}
 use Rattle.mixing.proofs.Hold.{or_first}
 use Rattle.mixing.proofs.Lock.{is_true, is_false}
+use Rattle.mixing.proofs.Rule.{free_after, sync_same, swsm_same}
 use Rattle.mixing.proofs.Wp.{
   View,
   with_smbi,
@@ -105,10 +108,6 @@ keep_after q s n old false o h k = sym (is_false _ (λ t. true≢false (sym (k t
 keep_after q s n false true o h k = n ∙ sym (nobodys q o (h refl))
 keep_after q s n true true o h k = refl
 
-pub free_after : (s : Owner) (old new : Bool) (o : Owner) → new ≡ false → owned_by s old new o ≡ nobody
-free_after s old true o e = absurd (true≢false e)
-free_after s old false o e = refl
-
 -- a firmware bit never becomes a port's
 fw_after : (q : Side) (s : Owner) (old new : Bool) (o : Owner) → (new ≡ true → old ≡ false → ⊥) → is_port q o ≡ false → is_port q (owned_by s old new o) ≡ false
 fw_after q s old false o h k = refl
@@ -160,9 +159,38 @@ not_31 i h = both_bits i fw_bits (2 ^ 31) refl h
 unchanged : {p : Side} {W : View} {M : Reply → Type 0} (c : Chip) (r : Reply) → M r → ChipOk c → Sees p c W → Shared p (record { reply = r; chip = c }) W M c
 unchanged c r m k s = record { may = m; chip = k; sees = s; others = λ q W n t. t }
 
--- what a port's write stores, where it keeps the rules: all that is used of `stored`
-as_written : (old new : ℕ) → stored old new ≡ new
-as_written old new = refl
+-- ---- a port that keeps the rules has what it writes stored
+
+-- it has seen the firmware's bits and bit 31
+sync_stored : (p : Side) (c : Chip) (W : View) (v : ℕ) → ChipOk c → Sees p c W → MayStore W v → stored_sync c.sync.value v ≡ v
+sync_stored p c W v k s m =
+    sync_same c.sync.value v (λ i h. go i h (bit i c.sync.value) (bit i v) refl refl)
+    (λ _. is_set p c.sync 31 (k.owned 31) (s.mine 31 ∙ m.held))
+  where
+    known : (i : ℕ) → bit i W.sync ≡ bit i c.sync.value
+    known i = ap (bit i) (s.sync m.held)
+
+    go : (i : ℕ) → bit i fw_bits ≡ true → (x y : Bool) → bit i c.sync.value ≡ x → bit i v ≡ y → x ≡ y
+    go i h true true d e = refl
+    go i h true false d e = absurd (true≢false (sym (s.mine i ∙ m.drops i (known i ∙ d) e) ∙ k.fw_only i h p))
+    go i h false true d e = absurd (true≢false (sym (m.raises i h e) ∙ known i ∙ d))
+    go i h false false d e = refl
+
+-- it writes nothing but 0 to SWSM
+swsm_stored : (old : ℕ) → stored_swsm old 0 ≡ 0
+swsm_stored old = swsm_same old 0 (λ e. absurd (true≢false (sym e ∙ bit_zero 0)))
+
+same_word : (p : Side) (c : Chip) (W : View) (v : ℕ) (kd : Kind) → ChipOk c → Sees p c W → NeedWrite W v kd → SameWord c v kd
+same_word p c W v is_swsm k s n = subst (λ u. stored_swsm c.swsm.value u ≡ u) (sym n.1) (swsm_stored c.swsm.value)
+same_word p c W v is_sync k s n = sync_stored p c W v k s n
+same_word p c W v is_ctrl k s n = tt
+same_word p c W v is_data k s n = tt
+same_word p c W v is_other k s n = tt
+
+pub same_action : (f : Family) (p : Side) (c : Chip) (W : View) (a : Action) → ChipOk c → Sees p c W → Need f W a → SameAction f c a
+same_action f p c W (action.Read r) k s n = tt
+same_action f p c W (action.Write r v) k s n = same_word p c W v (kind f r) k s n
+same_action f p c W (action.Wait i) k s n = tt
 
 -- ---- SWSM
 
@@ -211,7 +239,7 @@ swsm_write : (p : Side) (w : World) (c : Chip) (W : View) → ChipOk c → Sees 
     → Shared p (do_write p w c 0 is_swsm) (with_smbi false W) (MayWrite is_swsm) c
 swsm_write p w c W k s e =
     subst (λ v. Shared p (record { reply = Ok 0; chip = with_swsm (becomes (of_port p) v c.swsm) c }) (with_smbi false W) (MayWrite is_swsm) c)
-    (sym (as_written c.swsm.value 0)) (swsm_store p c W k s e)
+    (sym (swsm_stored c.swsm.value)) (swsm_store p c W k s e)
 
 -- ---- SW_FW_SYNC
 
@@ -272,7 +300,7 @@ sync_write : (p : Side) (w : World) (c : Chip) (W : View) (v : ℕ) → ChipOk c
 sync_write p w c W v k s m =
     subst (λ u. Shared p (do_write p w c v is_sync) (stores u v W) (MayWrite is_sync) c) (sym known)
     (subst (λ x. Shared p (record { reply = Ok 0; chip = with_sync (becomes (of_port p) x c.sync) c }) (stores c.sync.value v W) (MayWrite is_sync) c)
-    (sym (as_written c.sync.value v))
+    (sym (sync_stored p c W v k s m))
     (sync_store p c W v (Ok 0) tt k s m.good
     (λ i h z. m.drops i (ap (bit i) known ∙ h) z)
     (λ i h z. sym (ap (bit i) known) ∙ m.raises i h z)

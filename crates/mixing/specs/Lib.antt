@@ -7,4 +7,5 @@ pub mod Heeded
 pub mod Alone
 pub mod Conversations
 pub mod Tie
+pub mod Rule
 pub mod Turns

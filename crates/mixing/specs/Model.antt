@@ -32,12 +32,30 @@ owned_by q true true o = o
 abbrev pub becomes : Owner → ℕ → Word → Word
 becomes q v w = record { value = v; owner = λ i. owned_by q (bit i w.value) (bit i v) (w.owner i) }
 
--- what a port's write of a word stores
-abbrev pub stored : ℕ → ℕ → ℕ
-stored old new = new
+-- the firmware's bits: 4, the flash bit, 5 to 8, 13 and 14, as in the datasheets' table (proofs/Pairs.antt)
+abbrev pub fw_bits : ℕ
+fw_bits = 0x61f0
 
-abbrev pub written : Side → ℕ → Word → Word
-written p v w = becomes (of_port p) (stored w.value v) w
+-- `old` in the bits of a mask, `new` in all others
+abbrev pub keeps : (mask old new : ℕ) → ℕ
+keeps mask old new = bit_or (bit_and old mask) (new - bit_and new mask)
+
+-- `new`, but a 1 in bit b leaves that bit as it stands
+abbrev pub one_leaves : (b old new : ℕ) → ℕ
+one_leaves b old new = pick (bit b new) (keeps (2 ^ b) old new) new
+
+-- What a port's write of `new` stores where `old` stands. To SW_FW_SYNC: it changes neither the flash bit nor the firmware's
+-- bits, and a 1 in bit 31 leaves that bit as it stands
+abbrev pub stored_sync : (old new : ℕ) → ℕ
+stored_sync old new = keeps fw_bits old (one_leaves 31 old new)
+
+-- to SWSM: a 1 in bit 0 leaves that bit as it stands
+abbrev pub stored_swsm : (old new : ℕ) → ℕ
+stored_swsm old new = one_leaves 0 old new
+
+-- a port's write of a word, by what it stores
+abbrev pub written : (ℕ → ℕ → ℕ) → Side → ℕ → Word → Word
+written stored p v w = becomes (of_port p) (stored w.value v) w
 
 -- a read gives the word, then sets bit b
 abbrev pub taken : Owner → ℕ → Word → Word
@@ -112,8 +130,8 @@ do_read p w c is_data = did (c.kr c.selected) c
 do_read p w c is_other = record { reply = w.reply; chip = c }
 
 abbrev pub do_write : Side → World → Chip → ℕ → Kind → Did
-do_write p w c v is_swsm = did 0 (with_swsm (written p v c.swsm) c)
-do_write p w c v is_sync = did 0 (with_sync (written p v c.sync) c)
+do_write p w c v is_swsm = did 0 (with_swsm (written stored_swsm p v c.swsm) c)
+do_write p w c v is_sync = did 0 (with_sync (written stored_sync p v c.sync) c)
 do_write p w c v is_ctrl = did 0 (with_selected v c)
 do_write p w c v is_data = did 0 (with_kr (put c.selected v c.kr) c)
 do_write p w c v is_other = record { reply = w.reply; chip = c }
@@ -124,11 +142,7 @@ do_action f p w c (action.Read r) = do_read p w c (kind f r)
 do_action f p w c (action.Write r v) = do_write p w c v (kind f r)
 do_action f p w c (action.Wait n) = did 0 c
 
--- the firmware's bits: 4 to 8, 13 and 14, as in the datasheets' table (proofs/Pairs.antt)
-abbrev pub fw_bits : ℕ
-fw_bits = 0x61f0
-
--- the software partner of one of them
+-- the software partner of one of the firmware's bits
 abbrev pub partner : ℕ → ℕ
 partner i = pick (eqb i 4) 0 (pick (leb i 8) (i - 5) (i - 2))
 
