@@ -1,1 +1,3 @@
 pub mod TurnLaws
+pub mod AheadLaws
+pub mod TalkLaws

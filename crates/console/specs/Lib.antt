@@ -1,1 +1,5 @@
 pub mod Turn
+pub mod Ahead
+pub mod Ending
+pub mod Talk
+pub mod Opened

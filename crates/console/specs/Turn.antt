@@ -9,7 +9,11 @@ use Rattle.console.specs.declared.turn.Turned.{Turned}
 abbrev pub ran_three : Conv → List ℕ → Shown
 ran_three c rs = run_all c rs (0 ∷ 0 ∷ 0 ∷ []) 0
 
+-- the lines of what a run wrote from the start of its transcript on
+abbrev pub printed : Shown → List ℕ
+printed s = lines_text (take s.tape.at s.tape.transcript)
+
 pub record Turn (c : Conv) (rs : List ℕ) (r : Turned) (line : List ℕ) : Type 0 where
   pub stop : r.stop ≡ (ran_three c rs).stop
   pub to : conv_of r.to ≡ left (ran_three c rs)
-  pub text : line ≡ lines_text (take (ran_three c rs).tape.at (ran_three c rs).tape.transcript)
+  pub text : line ≡ printed (ran_three c rs)

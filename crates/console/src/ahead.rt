@@ -1,4 +1,9 @@
 // The replies that are in the buffer already, in one run. One action at a time would do; this is faster.
+ghost use Rattle.std.specs.Prelude.{IfOk, OnOk};
+ghost use Rattle.console.specs.Turn.{printed};
+ghost use Rattle.console.specs.Ahead.{ran_from, Ahead};
+ghost use Rattle.streams.specs.Output.{Prints};
+
 use conversation::conversation::Conversation;
 use conversation::run::run;
 use std::io;
@@ -19,7 +24,10 @@ pub fn ahead<W: Write>(
     buf: &[u8],
     sink: &mut W,
     waiting: &mut Waiting,
-) -> io::Result<Moved> {
+) -> io::Result<Moved>
+    ensures ahead { IfOk result (Ahead from buf.now) }
+    ensures printed { OnOk result (Prints (W.contents sink.old) waiting.old (printed (ran_from from buf.now)) (W.contents sink.new) waiting.new) }
+{
     let mut words = [0u32; 128];
     let mut behind = [0usize; 64];
     let mut t = [0u32; 384];

@@ -1,4 +1,8 @@
 // What is printed at the conversation's end.
+ghost use Rattle.conversation.specs.Conversation.{conv_of};
+ghost use Rattle.console.specs.Ending.{left_line, ended_text};
+ghost use Rattle.streams.specs.Output.{PrintsAll};
+
 use answers::Value;
 use conversation::conversation::Conversation;
 use hardware::Error;
@@ -13,7 +17,9 @@ fn left<W: Write>(
     words: usize,
     sink: &mut W,
     waiting: &mut Waiting,
-) -> io::Result<()> {
+) -> io::Result<()>
+    ensures { PrintsAll result (W.contents sink.old) waiting.old (left_line (conv_of c) words) (W.contents sink.new) waiting.new }
+{
     if words == 0 || words > 16 {
         return Ok(());
     }
@@ -32,7 +38,9 @@ pub fn ended<W: Write>(
     asked: bool,
     sink: &mut W,
     waiting: &mut Waiting,
-) -> io::Result<()> {
+) -> io::Result<()>
+    ensures { PrintsAll result (W.contents sink.old) waiting.old (ended_text answer c words asked) (W.contents sink.new) waiting.new }
+{
     last(answer, c.block, c.actions, c.micros, sink, waiting)?;
     if asked {
         return left(c, words, sink, waiting);

@@ -1,7 +1,9 @@
 // A listing, from the port's line on.
-ghost use Rattle.std.specs.Prelude.{◌≡◌, take};
+ghost use Rattle.std.specs.Prelude.{◌≡◌, ℕ, List, take, IfOk};
 ghost use Rattle.calls.specs.Conversation.{begun};
 ghost use Rattle.conversation.specs.Conversation.{conv_of};
+ghost use Rattle.console.specs.Opened.{Opened, Listing};
+ghost use Rattle.streams.specs.Output.{Prints};
 
 use crate::ahead::Moved;
 use crate::talk::talk;
@@ -36,7 +38,9 @@ fn opened<R: Read, W: Write>(
     sink: &mut W,
     waiting: &mut Waiting,
     asked: bool,
-) -> io::Result<Input> {
+) -> io::Result<Input>
+    ensures { IfOk result (λ rest. (text : List ℕ) × (Opened port what args.now input asked buf.old buf.new text rest) × (Prints (W.contents sink.old) waiting.old text (W.contents sink.new) waiting.new)) }
+{
     let (Some(port), Some((operation, words))) = (port, what) else {
         stop(Fault::BadLine.number(), 0, 0, sink, waiting)?;
         return Ok(input);
@@ -54,7 +58,9 @@ pub fn listing<R: Read, W: Write>(
     sink: &mut W,
     waiting: &mut Waiting,
     asked: bool,
-) -> io::Result<Input> {
+) -> io::Result<Input>
+    ensures { IfOk result (λ rest. (text : List ℕ) × (Listing buf.old input asked buf.new text rest) × (Prints (W.contents sink.old) waiting.old text (W.contents sink.new) waiting.new)) }
+{
     let mut args = [0u32; 17];
     let Fetched { next, input } = fetch(source, buf, input);
     let port = port_line(line_of(buf, next));

@@ -1,4 +1,11 @@
 // A conversation that has begun, to its end.
+ghost use Rattle.std.specs.Prelude.{ℕ, ◌≡◌, ◌-◌, ◌^◌, [], ◌∷◌, List, IfOk, OnOk};
+ghost use Rattle.conversation.specs.Conversation.{conv_of};
+ghost use Rattle.console.specs.Turn.{ran_three, printed};
+ghost use Rattle.console.specs.Ending.{last_text};
+ghost use Rattle.console.specs.Talk.{Acted, Onward, Turns, Listed};
+ghost use Rattle.streams.specs.Output.{Prints};
+
 use crate::ahead::{Moved, ahead};
 use crate::ending::ended;
 use crate::turn::{Turned, turn};
@@ -23,12 +30,15 @@ struct Came {
 fn act<W: Write>(
     c: Conversation,
     input: Input,
-    (kind, value): (u32, u32),
+    pair: (u32, u32),
     sink: &mut W,
     waiting: &mut Waiting,
-) -> io::Result<Moved> {
+) -> io::Result<Moved>
+    ensures acted { IfOk result (Acted (conv_of c) pair input) }
+    ensures printed { OnOk result (Prints (W.contents sink.old) waiting.old (printed (ran_three (conv_of c) (pair.0 ∷ pair.1 ∷ []))) (W.contents sink.new) waiting.new) }
+{
     let mut line = Line::new();
-    let Turned { to, .. } = turn(c, &[kind, value], &mut line);
+    let Turned { to, .. } = turn(c, &[pair.0, pair.1], &mut line);
     waiting.print(sink, line.as_slice())?;
     Ok(Moved { to, input })
 }
@@ -40,7 +50,9 @@ fn onward<R: Read, W: Write>(
     buf: &mut [u8],
     sink: &mut W,
     waiting: &mut Waiting,
-) -> io::Result<Came> {
+) -> io::Result<Came>
+    ensures { IfOk result (λ came. (text : List ℕ) × (Onward from buf.old buf.new text came.moved came.number) × (Prints (W.contents sink.old) waiting.old text (W.contents sink.new) waiting.new)) }
+{
     let Step::Ask(a, _) = from.to.place else {
         return Ok(Came {
             moved: from,
@@ -66,12 +78,10 @@ fn onward<R: Read, W: Write>(
 }
 
 // The last lines; answers what is left of the input.
-fn finish<W: Write>(
-    at: Came,
-    sink: &mut W,
-    waiting: &mut Waiting,
-    asked: bool,
-) -> io::Result<Input> {
+fn finish<W: Write>(at: Came, sink: &mut W, waiting: &mut Waiting, asked: bool) -> io::Result<Input>
+    ensures rest { IfOk result (λ rest. rest ≡ at.moved.input) }
+    ensures printed { OnOk result (Prints (W.contents sink.old) waiting.old (last_text at.moved.to at.number asked) (W.contents sink.new) waiting.new) }
+{
     let Moved { to: c, input } = at.moved;
     match c.place {
         Step::Done(end) => ended(end.answer, end.words, c, asked, sink, waiting)?,
@@ -83,7 +93,31 @@ fn finish<W: Write>(
     Ok(input)
 }
 
-// No conversation is as long as the turns that are counted.
+// The turns of a listing, up to one that stops it. No conversation is as long as the turns that are counted.
+#[tactic(auto, using(crate::proofs::TalkLaws::went_none, crate::proofs::TalkLaws::went_all))]
+fn turns<R: Read, W: Write>(
+    from: Moved,
+    source: &mut R,
+    buf: &mut [u8],
+    sink: &mut W,
+    waiting: &mut Waiting,
+) -> io::Result<Came>
+    ensures { IfOk result (λ came. (text : List ℕ) × (Turns from buf.old (2 ^ 64 - 1) came.moved came.number buf.new text) × (Prints (W.contents sink.old) waiting.old text (W.contents sink.new) waiting.new)) }
+{
+    let mut at = Came {
+        moved: from,
+        number: None,
+    };
+    for done in 0..u64::MAX {
+        if at.number.is_some() {
+            return Ok(at);
+        }
+        at = onward(at.moved, source, buf, sink, waiting)?;
+    }
+    Ok(at)
+}
+
+// A listing, to its last lines.
 pub fn talk<R: Read, W: Write>(
     from: Moved,
     source: &mut R,
@@ -91,16 +125,9 @@ pub fn talk<R: Read, W: Write>(
     sink: &mut W,
     waiting: &mut Waiting,
     asked: bool,
-) -> io::Result<Input> {
-    let mut at = Came {
-        moved: from,
-        number: None,
-    };
-    for _ in 0..u64::MAX {
-        if at.number.is_some() {
-            break;
-        }
-        at = onward(at.moved, source, buf, sink, waiting)?;
-    }
+) -> io::Result<Input>
+    ensures { IfOk result (λ rest. (text : List ℕ) × (Listed from buf.old buf.new asked text rest) × (Prints (W.contents sink.old) waiting.old text (W.contents sink.new) waiting.new)) }
+{
+    let at = turns(from, source, buf, sink, waiting)?;
     finish(at, sink, waiting, asked)
 }

@@ -1,7 +1,7 @@
 -- The bits of `and`, `or` and `v & !b`, each once over the width
-use Prim.Native.Nat.{ℕ, zero, suc, ◌+◌, ◌-◌, ◌*◌, ◌/◌, ◌%◌, ◌^◌, ◌<◌, min, max}
+use Prim.Native.Nat.{ℕ, zero, suc, ◌+◌, ◌-◌, ◌*◌, ◌/◌, ◌%◌, ◌^◌, ◌<◌, ◌≤◌, min, max}
 use native.Mathlib.Omega.{arith}
-use native.Mathlib.Nat.{mod-lt, zero-lt-suc, pow-suc, min-zero}
+use native.Mathlib.Nat.{mod-lt, zero-lt-suc, pow-suc, min-zero, div-add-mod'}
 use mathlib.Core.Path.{◌≡◌, refl, sym, ap, ap₂, ◌∙◌}
 use mathlib.Core.Bool.{Bool, true, false, not, ◌&&◌, ◌||◌, true≢false}
 use lib.Dec.{eqb}
@@ -31,7 +31,7 @@ or_digit d0 d1 = refl
 or_digit d1 d0 = refl
 or_digit d1 d1 = refl
 
-low : (x : ℕ) → Digit (x % 2)
+pub low : (x : ℕ) → Digit (x % 2)
 low x = digit (x % 2) (mod-lt x (zero-lt-suc 1))
 
 and_half : (a b : ℕ) → bit_and a b / 2 ≡ bit_and (a / 2) (b / 2)
@@ -45,6 +45,25 @@ or_half a b = omega (arith, or_step a b)
 
 or_low : (a b : ℕ) → bit_or a b % 2 ≡ max (a % 2) (b % 2)
 or_low a b = omega (arith, or_step a b)
+
+-- words with the same bits are the same
+
+same_digit : {x y : ℕ} → Digit x → Digit y → eqb x 1 ≡ eqb y 1 → x ≡ y
+same_digit d0 d0 e = refl
+same_digit d0 d1 e = absurd (true≢false (sym e))
+same_digit d1 d0 e = absurd (true≢false e)
+same_digit d1 d1 e = refl
+
+same_up_to : (n a b : ℕ) → a ≤ n → b ≤ n → ((i : ℕ) → bit i a ≡ bit i b) → a ≡ b
+unfolding bit
+same_up_to zero a b ha hb h = omega arith
+same_up_to (suc n) a b ha hb h =
+    sym (div-add-mod' a 2)
+    ∙ ap₂ (λ x y. x * 2 + y) (same_up_to n (a / 2) (b / 2) (omega arith) (omega arith) (λ i. h (suc i))) (same_digit (low a) (low b) (h 0))
+    ∙ div-add-mod' b 2
+
+pub same_bits : (a b : ℕ) → ((i : ℕ) → bit i a ≡ bit i b) → a ≡ b
+same_bits a b h = same_up_to (a + b) a b (omega arith) (omega arith) h
 
 pub bit-bit_and : (i a b : ℕ) → bit i (bit_and a b) ≡ (bit i a && bit i b)
 unfolding bit

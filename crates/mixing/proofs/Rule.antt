@@ -1,14 +1,13 @@
 -- What a port's write stores, bit by bit, and where that is the word written
 use Rattle.hardware.specs.Talk.{pick}
-use Prim.Native.Nat.{ℕ, zero, suc, ◌+◌, ◌-◌, ◌*◌, ◌/◌, ◌%◌, ◌^◌, ◌<◌, ◌≤◌, min}
+use Prim.Native.Nat.{ℕ, zero, suc, ◌-◌, ◌/◌, ◌%◌, ◌^◌, min}
 use native.Mathlib.Omega.{arith}
-use native.Mathlib.Nat.{mod-lt, zero-lt-suc, div-add-mod'}
 use mathlib.Core.Path.{◌≡◌, refl, sym, ap, ap₂, ◌∙◌, subst}
 use mathlib.Core.Bool.{Bool, true, false, not, ◌&&◌, ◌||◌, true≢false}
 use lib.Dec.{eqb}
 use lib.Bits.{bit_and, and_step, and_le_l}
 use Rattle.hardware.specs.Bits.{bit}
-use Rattle.hardware.proofs.Bits.{Digit, d0, d1, bit-bit_and, bit-bit_or, only_bit}
+use Rattle.hardware.proofs.Bits.{Digit, d0, d1, low, same_bits, bit-bit_and, bit-bit_or, only_bit}
 use Rattle.mixing.specs.Alone.{calm}
 use Rattle.mixing.specs.Model.{
   Side,
@@ -30,32 +29,6 @@ use Rattle.mixing.specs.Model.{
 }
 use Rattle.mixing.specs.Rule.{OneLeaves, Owned, WriteRule}
 use Rattle.mixing.proofs.Lock.{is_false}
-
--- ---- words with the same bits are the same
-
-digit : (n : ℕ) → n < 2 → Digit n
-digit zero h = d0
-digit (suc zero) h = d1
-digit (suc (suc n)) h = let z : ⊥ = omega arith in absurd z
-
-low : (x : ℕ) → Digit (x % 2)
-low x = digit (x % 2) (mod-lt x (zero-lt-suc 1))
-
-same_digit : {x y : ℕ} → Digit x → Digit y → eqb x 1 ≡ eqb y 1 → x ≡ y
-same_digit d0 d0 e = refl
-same_digit d0 d1 e = absurd (true≢false (sym e))
-same_digit d1 d0 e = absurd (true≢false e)
-same_digit d1 d1 e = refl
-
-up_to : (n a b : ℕ) → a ≤ n → b ≤ n → ((i : ℕ) → bit i a ≡ bit i b) → a ≡ b
-unfolding bit
-up_to zero a b ha hb h = omega arith
-up_to (suc n) a b ha hb h =
-    sym (div-add-mod' a 2) ∙ ap₂ (λ x y. x * 2 + y) (up_to n (a / 2) (b / 2) (omega arith) (omega arith) (λ i. h (suc i))) (same_digit (low a) (low b) (h 0))
-    ∙ div-add-mod' b 2
-
-same_bits : (a b : ℕ) → ((i : ℕ) → bit i a ≡ bit i b) → a ≡ b
-same_bits a b h = up_to (a + b) a b (omega arith) (omega arith) h
 
 -- ---- `keeps` and `one_leaves`, bit by bit
 
