@@ -146,11 +146,13 @@ fn check(job: &Job) {
         assert_eq!([r.actions, r.micros, r.at, r.used], counts, "{name}: the counts");
         assert!(a == b, "{name}: the transcript");
     }
+    let r = port::inside(*port, *what, replies, actions + 1);
+    assert_eq!((r.given(), r.actions, r.micros, r.used), (Some(*given), counts[0], counts[1], counts[3]), "{name}: the steps inside");
 }
 
 fn main() {
     let millis: f64 = std::env::args().nth(1).map_or(20.0, |w| w.parse().expect("milliseconds of a round"));
-    println!("nanoseconds per action         actions      Rust       run   ratio     calls      rest   ratio      step   ratio");
+    println!("nanoseconds per action         actions      Rust       run   ratio     calls      rest   ratio      step   ratio    inside   ratio");
     let mut sizes = vec![];
     for job in jobs::read() {
         check(&job);
@@ -162,17 +164,22 @@ fn main() {
         let rounds = |nanos: f64| ((millis * 1e6 / nanos) as usize).max(1);
         let (count, few) = (rounds(ours(port::run, 50)), rounds(ours(port::steps, 1)));
         let mut u = vec![0; 3 * actions];
-        let mut times = [vec![], vec![], vec![], vec![]];
+        let mut times = [vec![], vec![], vec![], vec![], vec![], vec![]];
+        let inside = |replies: &[u32], actions, count| timed(count, || { black_box(port::inside(port, black_box(what), replies, actions)); });
         for _ in 0..ROUNDS {
             times[0].push(timed(count, || { black_box(over(port, black_box(what), &replies, &mut u)); }));
             times[1].push(ours(port::run, count));
             times[2].push(ours(port::steps, few));
             // The same three calls, with no reply and no room: what they cost beside the actions.
             times[3].push(timed(count, || { black_box(port::run(port, black_box(what), &[], &mut [])); }));
+            // Rattle's own steps, with all actions and with none.
+            times[4].push(inside(&replies, actions, count));
+            times[5].push(inside(&replies, 0, count));
         }
-        let [r, o, s, calls] = times.map(|t| middle(t) / actions as f64);
-        let rest = o - calls;
-        println!("{name:30} {actions:7} {r:9.2} {o:9.2} {:7.2} {calls:9.2} {rest:9.2} {:7.2} {s:9.2} {:7.2}", o / r, rest / r, s / r);
+        let [r, o, s, calls, all, none] = times.map(|t| middle(t) / actions as f64);
+        let (rest, i) = (o - calls, all - none);
+        println!("{name:30} {actions:7} {r:9.2} {o:9.2} {:7.2} {calls:9.2} {rest:9.2} {:7.2} {s:9.2} {:7.2} {i:9.2} {:7.2}",
+            o / r, rest / r, s / r, i / r);
         let none = stack::used(|| ());
         sizes.push((name, stack::used(|| { black_box(over(port, black_box(what), &replies, &mut u)); }) - none,
             stack::used(|| { black_box(port::run(port, black_box(what), &replies, &mut u)); }) - none,

@@ -49,6 +49,7 @@ extern "C" {
     fn mansruoy_answer(c: Conversation) -> Answered;
     fn mansruoy_run(c: Conversation, replies: *const u32, replies_len: usize, transcript: *mut u32, transcript_len: usize,
         at: usize) -> CRan;
+    fn mansruoy_steps(c: Conversation, replies: *const u32, replies_len: usize, actions: usize) -> CRan;
 }
 
 pub struct Ran {
@@ -109,4 +110,10 @@ pub fn steps(port: Port, what: What, replies: &[u32], transcript: &mut [u32]) ->
         }
         c = unsafe { mansruoy_step(c, kind, value) }.to;
     }
+}
+
+/// `begin`, then Rattle's own steps, until the end or so many actions: C's words are read before the first and written behind the last.
+pub fn inside(port: Port, what: What, replies: &[u32], actions: usize) -> Ran {
+    let r = unsafe { mansruoy_steps(begin(port, what), replies.as_ptr(), replies.len(), actions) };
+    ran(r.to, r.at, r.used)
 }

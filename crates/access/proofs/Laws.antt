@@ -1,6 +1,6 @@
 -- Jobs as talks that give a word
 use Rattle.std.specs.Prelude.{Err, Ok}
-use Rattle.hardware.specs.Talk.{Call, Res, end, ask, and_then, or_stop, ◌>>◌, return}
+use Rattle.hardware.specs.Talk.{Call, Res, end, ask, and_then, ◌>>◌, return}
 use Prim.Native.Nat.{ℕ}
 use mathlib.Core.List.{[]}
 use mathlib.Core.Path.{◌≡◌, refl, ap, fun_ext}
@@ -14,15 +14,9 @@ use Rattle.reference.specs.Mdio.{mask, read_reg, write_reg, write_body}
 use Rattle.reference.specs.X552.{kr_read, kr_write, kr_write_body, nvm_word}
 use Rattle.mdio.specs.declared.mdio.Wanted.TheVariants as wanted
 use Rattle.sideband.specs.declared.kr_access.KrWanted.TheVariants as kr
-use Rattle.access.specs.Access.{no_word, under_talk}
-use Rattle.access.specs.Locked.{zero_of}
+use Rattle.jobs.specs.Job.{no_word, zero_of}
+use Rattle.access.specs.Body.{under_talk}
 use Rattle.access.specs.declared.body.Held.TheVariants as held
-
--- what comes after a job that gives no word
-pub wrote : {B : Type 0} (t : Call (Unit {0})) (k : Call B) → and_then (no_word t) (λ p. or_stop (λ _. k) p.0) ≡ t >> k
-wrote (end (Ok _)) k = refl
-wrote (end (Err e)) k = refl
-wrote (ask a c) k = ap (ask a) (fun_ext (λ r. wrote (c r) k))
 
 -- nothing or 0 for a body that gives no word
 

@@ -2,8 +2,12 @@
 use Rattle.hardware.specs.Told.{told}
 use Rattle.hardware.specs.declared.Action.{Action}
 use Rattle.hardware.specs.declared.Step.{Step}
-use Rattle.hardware.specs.Talk.{Call, Reply, Res}
-use Rattle.std.specs.Prelude.{ℕ, List}
+use Rattle.hardware.specs.Talk.{Talk, Call, Reply, Res}
+use Rattle.hardware.specs.Block.{keep}
+use Rattle.hardware.specs.declared.Port.{Port}
+use Rattle.std.specs.Prelude.{ℕ, List, []}
+use Rattle.reference.specs.Sync.{plain}
+use Rattle.reference.specs.Acquire.{locked}
 use Rattle.reference.specs.X552.{nvm_body}
 use Rattle.mdio.specs.Mdio.{body_of, resume_mdio}
 use Rattle.sideband.specs.Kr.{kr_body, resume_kr}
@@ -26,3 +30,7 @@ resume_body (body.Nvm s) b r = resume_nvm s b r
 
 abbrev pub told_body : List ℕ → Step Action Body (Res ℕ) → Call ℕ
 told_body b = told (λ s r. resume_body s b r)
+
+-- what is done under a lock, with a word for each
+abbrev pub under_talk : Port → ℕ → Held → Talk (Res ℕ × List ℕ)
+under_talk port mask h = keep (locked plain port mask (held_talk h)) []

@@ -1,4 +1,3 @@
-pub mod Access
+pub mod Frame
 pub mod Body
-pub mod Hold
-pub mod Locked
+pub mod Access

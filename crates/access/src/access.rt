@@ -1,72 +1,24 @@
-// What an operation asks for between two decisions of its own: an action, or what is done under a lock, suspended at an action.
-ghost use Rattle.std.specs.Prelude.{ℕ, List, [], ◌≡◌, take};
-ghost use Rattle.hardware.specs.Talk.{ask, end};
-ghost use Rattle.hardware.specs.Block.{keep};
+// A job as an access: its first action, and how it goes on from each reply. The port is looked at when it begins and not again.
+ghost use Rattle.std.specs.Prelude.{ℕ, List, ◌≡◌, take};
+ghost use Rattle.hardware.specs.Talk.{ask};
 ghost use Rattle.reference.specs.Sync.{phy};
 ghost use Rattle.reference.specs.Acquire.{acquire, release};
 ghost use Rattle.reference.specs.Mdio.{mask};
-ghost use Rattle.hostif.specs.Command.{told_command};
-ghost use Rattle.access.specs.Locked.{told_locked};
-ghost use Rattle.access.specs.Access.{job_talk, no_word, under_talk, resume_access, told_access};
+ghost use Rattle.jobs.specs.Job.{job_talk, no_word};
+ghost use Rattle.jobs.specs.declared.job.Job.TheVariants as jobv;
+ghost use Rattle.access.specs.Access.{resume_access, told_access};
+ghost use Rattle.access.specs.Body.{under_talk};
 
 use crate::body::Held;
-use crate::hold::Hold;
-use crate::locked::{Locked, LockedCall};
+use crate::frame::Frame;
+use crate::place::{Access, AccessPlace, Begun, CommandFor, HoldFor, Under};
 use drive::machine::Machine;
-use hardware::{Action, Error, Family, Port, Regs, Reply, Step, checked, done};
-use hostif::command::Command;
+use hardware::{Action, Error, Family, Port, Reply, Step, checked, done};
+use jobs::job::{Ended, Job};
 use mdio::mdio::Wanted;
 use sideband::kr_access::KrWanted;
 use words::msca::address;
 use words::semaphore::Bits;
-
-#[derive(Clone, Copy)]
-pub enum Job {
-    // register
-    Read(u32),
-    // register, value
-    Write(u32, u32),
-    // microseconds
-    Wait(u32),
-    // hostif.rs's `command`: how many words, the first of the host block
-    Command(usize),
-    // PHY, device, register
-    ReadReg(u32, u32, u16),
-    // with the value
-    WriteReg(u32, u32, u16, u16),
-    // address
-    KrRead(u32),
-    // with the value
-    KrWrite(u32, u32),
-    // nvm_word
-    NvmWord(u16),
-}
-
-#[derive(Clone, Copy)]
-pub enum Access {
-    Reading,
-    Writing,
-    Waiting,
-    // how many words
-    Command(usize, Command),
-    // the mask
-    Under(u32, Locked),
-}
-
-// A job's first action, and where its access stands then.
-#[derive(Clone, Copy)]
-pub struct Begun {
-    pub action: Action,
-    pub access: Access,
-}
-
-// The end of an access, whose answer is a word (0 where it gives nothing), or of an operation: the answer, and how many words of
-// the host block belong to it.
-#[derive(Clone, Copy)]
-pub struct Ended<A> {
-    pub answer: Result<A, Error>,
-    pub words: usize,
-}
 
 // sync.rs's `phy`: the port's PHY bit.
 fn phy(lan: u32) -> u32
@@ -82,7 +34,7 @@ fn mask(port: Port) -> u32
 {
     match port.family {
         Family::X552 => phy(port.lan),
-        Family::X553 => phy(port.lan) | Hold::TOKEN,
+        Family::X553 => phy(port.lan) | Frame::TOKEN,
     }
 }
 
@@ -93,43 +45,53 @@ impl Begun {
     pub const NVM_LOCK: u32 = Bits::EEP | Bits::SW_MNG;
 
     fn under(port: Port, mask: u32, held: Held, block: &mut [u32; 16]) -> Begun
-        ensures { under_talk port mask held ≡ ask result.action (λ x. resume_access port result.access block.new x) }
+        ensures { under_talk port mask held ≡ ask result.action (λ x. resume_access result.access block.new x) }
     {
-        let regs = Regs::from(port.family);
-        let state = Locked::first(LockedCall { port, mask }, held, block);
+        let under = Under {
+            frame: Frame::of(port, mask),
+            hold: HoldFor::Acquiring(held),
+        };
+        under.acquire(block)
+    }
+
+    fn command(port: Port, words: usize) -> Begun
+        ensures { (b : List ℕ) → job_talk port (jobv.Command words) b ≡ ask result.action (λ x. resume_access result.access b x) }
+    {
+        let under = Under {
+            frame: Frame::of(port, Bits::SW_MNG),
+            hold: HoldFor::Alone,
+        };
+        under.command(CommandFor::Job(words))
+    }
+
+    // An action by itself.
+    fn alone(port: Port, action: Action, place: AccessPlace) -> Begun
+        ensures { action ≡ result.action × place ≡ result.access.place }
+    {
+        let under = Under {
+            frame: Frame::of(port, 0),
+            hold: HoldFor::Alone,
+        };
         Begun {
-            action: Action::Read(regs.swsm),
-            access: Access::Under(mask, state),
+            action,
+            access: Access { under, place },
         }
     }
-}
 
-impl Job {
     // Every job begins with an action.
     #[tactic(auto, using(crate::proofs::Laws::kr_read_begun, crate::proofs::Laws::kr_write_begun, crate::proofs::Laws::nvm_begun))]
-    pub fn start(self, port: Port, block: &mut [u32; 16]) -> Begun
-        ensures { job_talk port self block.old ≡ ask result.action (λ x. resume_access port result.access block.new x) }
+    pub fn of(job: Job, port: Port, block: &mut [u32; 16]) -> Begun
+        ensures { job_talk port job block.old ≡ ask result.action (λ x. resume_access result.access block.new x) }
     {
-        match self {
-            Job::Read(reg) => Begun {
-                action: Action::Read(reg),
-                access: Access::Reading,
-            },
-            Job::Write(reg, value) => Begun {
-                action: Action::Write(reg, value),
-                access: Access::Writing,
-            },
-            Job::Wait(micros) => Begun {
-                action: Action::Wait(micros),
-                access: Access::Waiting,
-            },
-            Job::Command(words) => {
-                let regs = Regs::from(port.family);
-                Begun {
-                    action: Action::Read(regs.swsm),
-                    access: Access::Command(words, Command::first(port)),
-                }
-            }
+        match job {
+            Job::Read(reg) => Begun::alone(port, Action::Read(reg), AccessPlace::Reading),
+            Job::Write(reg, value) => Begun::alone(
+                port,
+                Action::Write(reg, value),
+                AccessPlace::Writing,
+            ),
+            Job::Wait(micros) => Begun::alone(port, Action::Wait(micros), AccessPlace::Waiting),
+            Job::Command(words) => Begun::command(port, words),
             Job::ReadReg(phy, device, reg) => {
                 let wanted = Wanted::Read(address(phy, device, reg));
                 Begun::under(port, mask(port), Held::Mdio(wanted), block)
@@ -152,88 +114,48 @@ impl Job {
 }
 
 impl Access {
-    // The command's status is the word.
-    fn commanded(
-        port: Port,
-        words: usize,
-        step: Step<Action, Command, Result<u32, Error>>,
-    ) -> Step<Action, Access, Ended<u32>>
-        ensures { (b : List ℕ) → told_access port b result ≡ told_command port (take words b) step }
-    {
-        match step {
-            Step::Ask(a, s) => Step::Ask(a, Access::Command(words, s)),
-            Step::Done(word) => Step::Done(Ended {
-                answer: word,
-                words,
-            }),
-        }
-    }
-
-    pub fn under(
-        call: LockedCall,
-        step: Step<Action, Locked, Result<u32, Error>>,
-    ) -> Step<Action, Access, Ended<u32>>
-        ensures { (b : List ℕ) → told_access call.port b result ≡ keep (told_locked call.port call.mask b step) [] }
-    {
-        match step {
-            Step::Ask(a, s) => Step::Ask(a, Access::Under(call.mask, s)),
-            Step::Done(word) => Step::Done(Ended {
-                answer: word,
-                words: 0,
-            }),
-        }
-    }
-
-    #[tactic(auto, unfolding(reference::specs::Acquire::acquire))]
     pub fn acquire(port: Port, mask: u32, block: &mut [u32; 16]) -> Step<Action, Access, Ended<u32>>
-        ensures { told_access port block.new result ≡ no_word (acquire port mask) }
+        ensures { told_access block.new result ≡ no_word (acquire port mask) }
     {
-        let step = Hold::acquire(port, mask, block);
-        let call = LockedCall { port, mask };
-        Access::under(call, Locked::alone(call, step))
+        let under = Under {
+            frame: Frame::of(port, mask),
+            hold: HoldFor::Alone,
+        };
+        under.acquire(block).asked()
     }
 
     // That of mask 0 is done at once.
-    #[tactic(auto, unfolding(reference::specs::Acquire::release))]
     pub fn release(port: Port, mask: u32, block: &mut [u32; 16]) -> Step<Action, Access, Ended<u32>>
-        ensures { told_access port block.new result ≡ no_word (release port mask) }
+        ensures { told_access block.new result ≡ no_word (release port mask) }
     {
-        let step = Hold::release(port, mask, block);
-        let call = LockedCall { port, mask };
-        Access::under(call, Locked::alone(call, step))
+        let under = Under {
+            frame: Frame::of(port, mask),
+            hold: HoldFor::Alone,
+        };
+        under.release(block)
     }
 
-    // An access that has ended with no words of the host block.
-    fn gave(word: Result<u32, Error>) -> Step<Action, Access, Ended<u32>>
-        ensures { (port : Port) (b : List ℕ) → told_access port b result ≡ end (word, []) }
+    pub fn next(self, block: &mut [u32; 16], reply: Reply) -> Step<Action, Access, Ended<u32>>
+        ensures { told_access block.new result ≡ resume_access self block.old reply }
     {
-        Step::Done(Ended {
-            answer: word,
-            words: 0,
-        })
-    }
-
-    pub fn next(
-        self,
-        port: Port,
-        block: &mut [u32; 16],
-        reply: Reply,
-    ) -> Step<Action, Access, Ended<u32>>
-        ensures { told_access port block.new result ≡ resume_access port self block.old reply }
-    {
-        match self {
-            Access::Reading => Access::gave(checked(reply)),
-            Access::Writing => Access::gave(done(reply).map(|()| 0)),
-            Access::Waiting => Access::gave(Ok(0)),
-            Access::Command(words, s) => {
-                let step = s.next_of(words, port, block, reply);
-                Access::commanded(port, words, step)
+        let under = self.under;
+        match self.place {
+            AccessPlace::Reading => Access::gave(checked(reply)),
+            AccessPlace::Writing => Access::gave(done(reply).map(|()| 0)),
+            AccessPlace::Waiting => Access::gave(Ok(0)),
+            AccessPlace::Sync(why, s) => {
+                let step = s.next(under.call(why), reply);
+                under.synced(block, why, step)
             }
-            Access::Under(mask, s) => {
-                let call = LockedCall { port, mask };
-                let step = s.next(call, block, reply);
-                Access::under(call, step)
+            AccessPlace::Exchange(whose, s) => {
+                let step = whose.next(s, block, reply);
+                under.exchanged(whose, step)
             }
+            AccessPlace::Body(s) => {
+                let step = s.next(block, reply);
+                under.bodied(block, step)
+            }
+            AccessPlace::Pausing(left) => under.again(block, left),
         }
     }
 }

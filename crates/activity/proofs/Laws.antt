@@ -5,7 +5,7 @@ use mathlib.Core.List.{List}
 use mathlib.Core.Path.{◌≡◌, refl}
 use Rattle.hardware.specs.declared.Port.{Port}
 use Rattle.reference.specs.Hostif.{command, activity_times, activity_answer}
-use Rattle.hostif.proofs.Bytes.{status_cut}
+use Rattle.jobs.proofs.Bytes.{status_cut}
 use Rattle.activity.specs.Activity.{block_of, activity_got}
 use Rattle.arguments.specs.declared.Asked.{Asked}
 

@@ -1,15 +1,15 @@
 -- What a suspended `phy_activity` still says, from what its job gives
-use Rattle.access.specs.declared.access.Job.{Job}
-use Rattle.access.specs.Access.{told_job}
+use Rattle.jobs.specs.declared.job.Job.{Job}
+use Rattle.jobs.specs.Job.{told_job}
 use Rattle.hardware.specs.declared.Step.{Step}
 use Rattle.hardware.specs.Talk.{Call, Res, end, and_then, ◌>>=◌}
 use Rattle.std.specs.Prelude.{ℕ, List}
 use Rattle.hardware.specs.declared.Port.{Port}
 use Rattle.answers.specs.declared.Words.{Words}
 use Rattle.reference.specs.Hostif.{activity_block, activity_times, activity_answer, phy_activity}
-use Rattle.hostif.specs.Command.{status_of}
-use Rattle.access.specs.Access.{job_talk}
-use Rattle.access.specs.declared.access.Job.TheVariants as job
+use Rattle.jobs.specs.Token.{status_of}
+use Rattle.jobs.specs.Job.{job_talk}
+use Rattle.jobs.specs.declared.job.Job.TheVariants as job
 use Rattle.activity.specs.declared.Activity.{Activity}
 use Rattle.activity.specs.declared.Activity.TheVariants as activity
 use Rattle.arguments.specs.declared.Asked.{Asked}

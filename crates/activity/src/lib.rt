@@ -5,10 +5,10 @@ ghost use Rattle.std.specs.Prelude.{◌≤◌, ◌≡◌, get_or, length, take};
 ghost use Rattle.reference.specs.Hostif.{activity_times, activity_words};
 ghost use Rattle.activity.specs.Activity.{block_of, activity_of, activity_got, begun_activity, resume_activity, told_activity};
 
-use access::access::{Ended, Job};
 use answers::Words;
 use arguments::Asked;
 use hardware::{Error, Port, Step};
+use jobs::job::{Ended, Job};
 use words::host_words::swap_bytes;
 
 #[derive(Clone, Copy)]

@@ -14,7 +14,7 @@ use Rattle.hardware.specs.declared.Port.{Port}
 use Rattle.hardware.proofs.Laws.{then_assoc}
 use Rattle.answers.specs.declared.Value.{Value}
 use Rattle.answers.specs.declared.Value.TheVariants as value
-use Rattle.reference.specs.Hostif.{command, token, token_answer, token_block}
+use Rattle.reference.specs.Hostif.{command, token, token_answer, token_word}
 use Rattle.reference.specs.Mdio.{read_reg, abilities}
 use Rattle.reference.specs.Bringup.{after_reset}
 use Rattle.reference.specs.Out.{answer, nothing}
@@ -22,9 +22,9 @@ use Rattle.reference.specs.X552.{mdio_clock, slow_mdio}
 use Rattle.reference.specs.X552 as x552
 use Rattle.reference.specs.X553.{firmware_phy, slow_device}
 use Rattle.reference.specs.X553 as x553
-use Rattle.hostif.specs.Token.{token_got}
-use Rattle.hostif.proofs.Bytes.{status_cut}
-use Rattle.access.specs.Access.{no_word}
+use Rattle.jobs.specs.Token.{token_got, token_words}
+use Rattle.jobs.proofs.Bytes.{status_cut}
+use Rattle.jobs.specs.Job.{no_word}
 use Rattle.phy.specs.Clock.{speed_at, clocked}
 use Rattle.after.specs.After.{after_nothing, after_word, after_abilities, after_command}
 
@@ -46,11 +46,11 @@ pub abilities_begun : (port : Port) (phy : ℕ) → and_then (blk.keep (read_reg
 unfolding abilities
 abilities_begun port phy = simp then_assoc
 
-pub token_begun : (port : Port) (take : Bool) → and_then (command port (token_block port take)) (λ p. answer value.Flag (token_got take p.0)) ≡ answer value.Flag (token port take)
-unfolding token
+pub token_begun : (port : Port) (take : Bool) → and_then (command port (token_words port.lan take)) (λ p. answer value.Flag (token_got take p.0)) ≡ answer value.Flag (token port take)
+unfolding token token_word
 token_begun port take =
-    sym (then_answer (command port (token_block port take)) (λ p. token_got take p.0) value.Flag)
-    ∙ ap (answer value.Flag) (status_cut port (token_block port take) (token_answer take))
+    sym (then_answer (command port (token_words port.lan take)) (λ p. token_got take p.0) value.Flag)
+    ∙ ap (answer value.Flag) (status_cut port (token_words port.lan take) (token_answer take))
 
 pub command_begun : (port : Port) (ws : List ℕ) (n : ℕ)
     → and_then (command port ws) (λ p. after_command n p.0 p.1) ≡ blk.◌>>=◌ (command port) (λ status. blk.return (value.Command status n)) ws

@@ -1,5 +1,5 @@
 -- What is left of an operation once its access has given a word, and the words of the host block that belong to it
-use Rattle.access.specs.declared.access.Job.{Job}
+use Rattle.jobs.specs.declared.job.Job.{Job}
 use Rattle.hardware.specs.declared.Step.{Step}
 use Rattle.hardware.specs.Talk.{Talk, Res, end, or_stop, return}
 use Rattle.std.specs.Prelude.{ℕ, List, [], take}
@@ -10,16 +10,16 @@ use Rattle.answers.specs.declared.Value.TheVariants as value
 use Rattle.reference.specs.Hardware.{vetoed, linked}
 use Rattle.reference.specs.Mdio.{speeds_of}
 use Rattle.reference.specs.Out.{Out, answer, nothing, poll_value}
-use Rattle.hostif.specs.Command.{status_of}
-use Rattle.hostif.specs.Token.{token_got}
-use Rattle.access.specs.Access.{told_job_by}
+use Rattle.jobs.specs.Token.{status_of}
+use Rattle.jobs.specs.Token.{token_got}
+use Rattle.jobs.specs.Job.{told_job_by}
 use Rattle.activity.specs.Activity.{resume_activity}
 use Rattle.watch.specs.Poll.{resume_poll}
 use Rattle.bringup.specs.Bringup.{resume_bringup}
 use Rattle.after.specs.Kr.{resume_kr}
 use Rattle.after.specs.Mdio.{resume_mdio}
 use Rattle.after.specs.declared.After.{After}
-use Rattle.access.specs.declared.access.Ended.{Ended}
+use Rattle.jobs.specs.declared.job.Ended.{Ended}
 use Rattle.answers.specs.declared.Value.{Value}
 use Rattle.after.specs.declared.After.TheVariants as after
 

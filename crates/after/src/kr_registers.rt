@@ -8,10 +8,10 @@ ghost use Rattle.after.specs.After.{after_word, told_after};
 ghost use Rattle.after.specs.Kr.{resume_kr};
 
 use crate::After;
-use access::access::{Ended, Job};
 use answers::Value;
 use arguments::Change;
 use hardware::{Error, Port, Step};
+use jobs::job::{Ended, Job};
 use kr::modify::KrModify;
 use kr::sequence::Sequence;
 

@@ -10,7 +10,7 @@ ghost use Rattle.hardware.specs.Talk.{end};
 ghost use Rattle.hardware.specs.declared.Port.{Port};
 ghost use Rattle.answers.specs.declared.Value.TheVariants as value;
 ghost use Rattle.reference.specs.Out.{answer, poll_value};
-ghost use Rattle.hostif.specs.Token.{token_got};
+ghost use Rattle.jobs.specs.Token.{token_got};
 ghost use Rattle.activity.specs.Activity.{told_activity};
 ghost use Rattle.bringup.specs.Bringup.{told_bringup};
 ghost use Rattle.watch.specs.Poll.{told_poll};
@@ -18,13 +18,13 @@ ghost use Rattle.after.specs.After.{after_abilities, after_command, after_link, 
 
 use crate::kr_registers::Kr;
 use crate::registers::Mdio;
-use access::access::{Ended, Job};
 use activity::Activity;
 use answers::{Value, Words};
 use arguments::{Asked, Watch};
 use bringup::Bringup;
 use hardware::{Error, Managed, Port, Step};
-use hostif::token::Token;
+use jobs::job::{Ended, Job};
+use jobs::token::Token;
 use phy::abilities::speeds_of;
 use watch::poll::{Poll, Polled};
 use words::link::Link;

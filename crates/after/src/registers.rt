@@ -15,10 +15,10 @@ ghost use Rattle.after.specs.After.{told_after};
 ghost use Rattle.after.specs.Mdio.{resume_mdio};
 
 use crate::After;
-use access::access::{Ended, Job};
 use answers::Value;
 use arguments::{Advertised, Register};
 use hardware::{Error, Port, Step};
+use jobs::job::{Ended, Job};
 use phy::advertise::Advertise;
 use phy::an_link::AnLink;
 use phy::clock::Clock;

@@ -10,7 +10,7 @@ use Rattle.hardware.specs.declared.Error.{Error}
 use Rattle.hardware.specs.declared.Error.TheVariants.{Io, Removed, Timeout, Sideband, Semaphore, HostInterface, Firmware, NoPhy, PhyReset, Lan, Fiber, Address, Block}
 use Rattle.hardware.specs.declared.Action.{Action}
 use Rattle.hardware.specs.declared.Step.{Step}
-use Rattle.access.specs.declared.access.Ended.{Ended}
+use Rattle.jobs.specs.declared.job.Ended.{Ended}
 use Rattle.answers.specs.declared.Value.{Value}
 use Rattle.packed.proofs.Width.Hardware.{family_length}
 use Rattle.conversation.specs.declared.conversation.Conversation.{Conversation}

@@ -15,9 +15,9 @@ ghost use Rattle.x553.specs.Prepare as firmware;
 ghost use Rattle.x553.specs.Sgmii.{told_sgmii};
 ghost use Rattle.bringup.specs.Bringup.{kr_value, veto_value, copper_value, lane_talk, vetoed_talk, devices_of, kr_then, answer553, link_then, copper_then, firmware_then, clock_then, got_mmngc, got_sel, resume_bringup, told_bringup};
 
-use access::access::{Ended, Job};
 use answers::{CopperSetup, FirmwareSetup, Setup552, Setup553, SgmiiSetup, Value, X557};
 use hardware::{Error, Family, Managed, Port, Step};
+use jobs::job::{Ended, Job};
 use kr::sequence::{KrPlace, Sequence};
 use phy::clock::Clock;
 use x552::link::{CopperCall, CopperLink};

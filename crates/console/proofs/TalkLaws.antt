@@ -5,7 +5,7 @@ use Rattle.hardware.specs.Numbers.{stop_number}
 use Rattle.hardware.specs.declared.Action.{Action}
 use Rattle.hardware.specs.declared.Stop.TheVariants.{AfterEnd}
 use Rattle.hardware.specs.declared.Step.TheVariants as step
-use Rattle.access.specs.declared.access.Ended.{Ended}
+use Rattle.jobs.specs.declared.job.Ended.{Ended}
 use Rattle.answers.specs.declared.Value.{Value}
 use Rattle.started.specs.declared.operation.Op.{Op}
 use Rattle.hardware.specs.declared.Port.{Port}

@@ -10,7 +10,7 @@ use Rattle.lines.specs.Listing.{end_text, left_text, stop_text}
 use Rattle.hardware.specs.declared.Action.{Action}
 use Rattle.hardware.specs.declared.Step.{Step}
 use Rattle.hardware.specs.declared.Step.TheVariants.{Ask, Done}
-use Rattle.access.specs.declared.access.Ended.{Ended}
+use Rattle.jobs.specs.declared.job.Ended.{Ended}
 use Rattle.started.specs.declared.operation.Op.{Op}
 
 -- the line of a host block that is handed back, none where it is not

@@ -1,2 +1,3 @@
 pub mod Conversation
+pub mod Hold
 pub mod Run

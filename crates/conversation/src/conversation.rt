@@ -8,12 +8,12 @@ ghost use Rattle.conversation.specs.Conversation.{answer_as, conv_of, padded, st
 ghost use Rattle.start.specs.First.{told_first};
 ghost use Rattle.started.specs.Operation.{resume_op, told};
 
-use access::access::Ended;
 use after::After;
 use answers::Value;
 use arguments::{Left, Watch};
 use drive::{reply_of, uses_of, waited_of};
 use hardware::{Action, Error, Port, Reply, Step, Stop};
+use jobs::job::Ended;
 use operations::Operation;
 use run_access::lent::Lent;
 use start::start::{First, start};

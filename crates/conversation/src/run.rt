@@ -7,10 +7,10 @@ ghost use Rattle.calls.specs.Run.{run_on, run_into, bad, run_all};
 ghost use Rattle.conversation.specs.Run.{shown_of, reached_of};
 
 use crate::conversation::Conversation;
-use access::access::Ended;
 use answers::Value;
 use drive::{Host, act};
 use hardware::{Action, Port, Step, Stop};
+use jobs::job::Ended;
 use run_access::lent;
 use run_access::lent::Lent;
 use started::operation::Op;

@@ -1,4 +1,2 @@
 pub mod Post
 pub mod Exchange
-pub mod Command
-pub mod Token

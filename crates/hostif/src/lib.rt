@@ -1,7 +1,5 @@
-// hostif.rs, tier 1: a command of the firmware's host interface, and the PHY token.
+// hostif.rs, tier 1: what a command of the firmware's host interface does while it holds SW_MNG.
 #![tactic(auto)]
 
-pub mod command;
 pub mod exchange;
 pub mod post;
-pub mod token;

@@ -1,5 +1,5 @@
 -- What a suspended `kr_modify` still says, from what its job gives
-use Rattle.access.specs.Access.{told_job}
+use Rattle.jobs.specs.Job.{told_job}
 use Rattle.hardware.specs.declared.Step.{Step}
 use Rattle.hardware.specs.Talk.{Call, Res, end, and_then, ◌>>=◌, return}
 use Rattle.std.specs.Prelude.{ℕ, List}
@@ -7,8 +7,8 @@ use Rattle.hardware.specs.declared.Port.{Port}
 use Rattle.words.specs.Kr.{krm}
 use Rattle.reference.specs.Mdio.{changed}
 use Rattle.reference.specs.X552.{kr_modify, kr_modified}
-use Rattle.access.specs.Access.{job_talk}
-use Rattle.access.specs.declared.access.Job.{Job}
+use Rattle.jobs.specs.Job.{job_talk}
+use Rattle.jobs.specs.declared.job.Job.{Job}
 use Rattle.arguments.specs.declared.Change.{Change}
 use Rattle.kr.specs.declared.modify.KrModify.{KrModify}
 use Rattle.kr.specs.declared.modify.KrModify.TheVariants as modify

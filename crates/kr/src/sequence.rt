@@ -7,9 +7,9 @@ ghost use Rattle.kr.specs.Modify.{told_modify};
 ghost use Rattle.kr.specs.Sequence.{first_of, change_of, sequence_of, sequence_then, sequence_at, sequence_after, resume_sequence, told_sequence};
 
 use crate::modify::KrModify;
-use access::access::Job;
 use arguments::Change;
 use hardware::{Error, Family, Port, Step};
+use jobs::job::Job;
 
 // Which call of kr_modify.
 #[derive(Clone, Copy)]

@@ -1,11 +1,11 @@
 pub mod Hardware
 pub mod Words
 pub mod Answers
-pub mod Hostif
-pub mod Sync
 pub mod Mdio
 pub mod Sideband
 pub mod Access
+pub mod Sync
+pub mod Hostif
 pub mod Activity
 pub mod Phy
 pub mod Arguments

@@ -2,24 +2,26 @@
 use Rattle.std.specs.Prelude.{ℕ, ◌%◌, ◌/◌, List, [], ◌∷◌, ◌++◌, eqb, drop, replicate}
 use Rattle.hardware.specs.Talk.{pick}
 use Rattle.packed.specs.Tape.{word_at, joined}
-use Rattle.access.specs.declared.access.Access.TheVariants as accessv
-use Rattle.access.specs.declared.access.Access.{Access}
 use Rattle.access.specs.declared.body.Body.TheVariants as bodyv
 use Rattle.access.specs.declared.body.Body.{Body}
 use Rattle.access.specs.declared.body.Held.TheVariants as heldv
 use Rattle.access.specs.declared.body.Held.{Held}
-use Rattle.access.specs.declared.hold.BitsPlace.TheVariants as bits_placev
-use Rattle.access.specs.declared.hold.BitsPlace.{BitsPlace}
-use Rattle.access.specs.declared.hold.Hold.TheVariants as holdv
-use Rattle.access.specs.declared.hold.Hold.{Hold}
-use Rattle.access.specs.declared.hold.TokenPlace.TheVariants as token_placev
-use Rattle.access.specs.declared.hold.TokenPlace.{TokenPlace}
-use Rattle.access.specs.declared.locked.HoldPlace.TheVariants as hold_placev
-use Rattle.access.specs.declared.locked.HoldPlace.{HoldPlace}
-use Rattle.access.specs.declared.locked.Locked.TheVariants as lockedv
-use Rattle.access.specs.declared.locked.Locked.{Locked}
+use Rattle.access.specs.declared.place.AccessPlace.TheVariants as access_placev
+use Rattle.access.specs.declared.place.AccessPlace.{AccessPlace}
+use Rattle.access.specs.declared.place.BitsPlace.TheVariants as bits_placev
+use Rattle.access.specs.declared.place.BitsPlace.{BitsPlace}
+use Rattle.access.specs.declared.place.CommandFor.TheVariants as command_forv
+use Rattle.access.specs.declared.place.CommandFor.{CommandFor}
+use Rattle.access.specs.declared.place.CommandPlace.TheVariants as command_placev
+use Rattle.access.specs.declared.place.CommandPlace.{CommandPlace}
+use Rattle.access.specs.declared.place.HoldFor.TheVariants as hold_forv
+use Rattle.access.specs.declared.place.HoldFor.{HoldFor}
+use Rattle.access.specs.declared.place.SyncFor.TheVariants as sync_forv
+use Rattle.access.specs.declared.place.SyncFor.{SyncFor}
+use Rattle.access.specs.declared.place.TokenPlace.TheVariants as token_placev
+use Rattle.access.specs.declared.place.TokenPlace.{TokenPlace}
 use Rattle.packed.specs.Hardware.{get_error, words_error}
-use Rattle.packed.specs.Hostif.{get_command, words_command}
+use Rattle.packed.specs.Hostif.{get_exchange, words_exchange}
 use Rattle.packed.specs.Mdio.{get_mdio, get_wanted, words_mdio, words_wanted}
 use Rattle.packed.specs.Packed.{get_flag, get_nothing, get_result, get_word, words_flag, words_nothing, words_result, words_word}
 use Rattle.packed.specs.Sideband.{get_kr, get_kr_wanted, get_nvm, words_kr, words_kr_wanted, words_nvm}
@@ -38,16 +40,16 @@ get_held s =
     heldv.Nvm (word_at s 1 % 65536)))
 
 -- 7 words
-unfoldable pub words_hold_place : HoldPlace → List ℕ
-words_hold_place hold_placev.Alone = 1 ∷ replicate 6 0
-words_hold_place (hold_placev.Acquiring held) = 2 ∷ (words_held held) ++ (replicate 2 0)
-words_hold_place (hold_placev.Releasing word_or_error) = 3 ∷ words_result 1 5 words_word words_error word_or_error
+unfoldable pub words_hold_for : HoldFor → List ℕ
+words_hold_for hold_forv.Alone = 1 ∷ replicate 6 0
+words_hold_for (hold_forv.Acquiring held) = 2 ∷ (words_held held) ++ (replicate 2 0)
+words_hold_for (hold_forv.Releasing word_or_error) = 3 ∷ words_result 1 5 words_word words_error word_or_error
 
-unfoldable pub get_hold_place : List ℕ → HoldPlace
-get_hold_place s =
-    pick (eqb (word_at s 0) 1) (hold_placev.Alone) (
-    pick (eqb (word_at s 0) 2) (hold_placev.Acquiring (get_held (drop 1 s))) (
-    hold_placev.Releasing (get_result get_word get_error (drop 1 s))))
+unfoldable pub get_hold_for : List ℕ → HoldFor
+get_hold_for s =
+    pick (eqb (word_at s 0) 1) (hold_forv.Alone) (
+    pick (eqb (word_at s 0) 2) (hold_forv.Acquiring (get_held (drop 1 s))) (
+    hold_forv.Releasing (get_result get_word get_error (drop 1 s))))
 
 -- 8 words
 unfoldable pub words_bits_place : BitsPlace → List ℕ
@@ -73,17 +75,35 @@ get_token_place s =
     pick (eqb (word_at s 0) 1) (token_placev.Taking (word_at s 1)) (
     token_placev.Giving)
 
--- 24 words
-unfoldable pub words_hold : Hold → List ℕ
-words_hold (holdv.Bits bits_place sync) = 1 ∷ (words_bits_place bits_place) ++ ((words_sync sync) ++ (replicate 2 0))
-words_hold (holdv.Token token_place command) = 2 ∷ (words_token_place token_place) ++ (words_command command)
-words_hold (holdv.Pausing x) = 3 ∷ x ∷ replicate 22 0
+-- 3 words
+unfoldable pub words_command_for : CommandFor → List ℕ
+words_command_for (command_forv.Job x) = 1 ∷ (x % 4294967296) ∷ (x / 4294967296) ∷ []
+words_command_for (command_forv.Token token_place) = 2 ∷ words_token_place token_place
 
-unfoldable pub get_hold : List ℕ → Hold
-get_hold s =
-    pick (eqb (word_at s 0) 1) (holdv.Bits (get_bits_place (drop 1 s)) (get_sync (drop 9 s))) (
-    pick (eqb (word_at s 0) 2) (holdv.Token (get_token_place (drop 1 s)) (get_command (drop 3 s))) (
-    holdv.Pausing (word_at s 1)))
+unfoldable pub get_command_for : List ℕ → CommandFor
+get_command_for s =
+    pick (eqb (word_at s 0) 1) (command_forv.Job (joined (word_at s 1) (word_at s 2))) (
+    command_forv.Token (get_token_place (drop 1 s)))
+
+-- 7 words
+unfoldable pub words_command_place : CommandPlace → List ℕ
+words_command_place command_placev.Acquiring = 1 ∷ replicate 6 0
+words_command_place (command_placev.Releasing word_or_error) = 2 ∷ words_result 1 5 words_word words_error word_or_error
+
+unfoldable pub get_command_place : List ℕ → CommandPlace
+get_command_place s =
+    pick (eqb (word_at s 0) 1) (command_placev.Acquiring) (
+    command_placev.Releasing (get_result get_word get_error (drop 1 s)))
+
+-- 11 words
+unfoldable pub words_sync_for : SyncFor → List ℕ
+words_sync_for (sync_forv.Bits bits_place) = 1 ∷ (words_bits_place bits_place) ++ (replicate 2 0)
+words_sync_for (sync_forv.Command command_for command_place) = 2 ∷ (words_command_for command_for) ++ (words_command_place command_place)
+
+unfoldable pub get_sync_for : List ℕ → SyncFor
+get_sync_for s =
+    pick (eqb (word_at s 0) 1) (sync_forv.Bits (get_bits_place (drop 1 s))) (
+    sync_forv.Command (get_command_for (drop 1 s)) (get_command_place (drop 4 s)))
 
 -- 8 words
 unfoldable pub words_body : Body → List ℕ
@@ -97,28 +117,22 @@ get_body s =
     pick (eqb (word_at s 0) 2) (bodyv.Kr (get_kr_wanted (drop 1 s)) (get_kr (drop 4 s))) (
     bodyv.Nvm (get_nvm (drop 1 s))))
 
--- 32 words
-unfoldable pub words_locked : Locked → List ℕ
-words_locked (lockedv.Hold hold_place hold) = 1 ∷ (words_hold_place hold_place) ++ (words_hold hold)
-words_locked (lockedv.Body body) = 2 ∷ (words_body body) ++ (replicate 23 0)
+-- 22 words
+unfoldable pub words_access_place : AccessPlace → List ℕ
+words_access_place access_placev.Reading = 1 ∷ replicate 21 0
+words_access_place access_placev.Writing = 2 ∷ replicate 21 0
+words_access_place access_placev.Waiting = 3 ∷ replicate 21 0
+words_access_place (access_placev.Sync sync_for sync) = 4 ∷ (words_sync_for sync_for) ++ (words_sync sync)
+words_access_place (access_placev.Exchange command_for exchange) = 5 ∷ (words_command_for command_for) ++ ((words_exchange exchange) ++ (replicate 13 0))
+words_access_place (access_placev.Body body) = 6 ∷ (words_body body) ++ (replicate 13 0)
+words_access_place (access_placev.Pausing x) = 7 ∷ x ∷ replicate 20 0
 
-unfoldable pub get_locked : List ℕ → Locked
-get_locked s =
-    pick (eqb (word_at s 0) 1) (lockedv.Hold (get_hold_place (drop 1 s)) (get_hold (drop 8 s))) (
-    lockedv.Body (get_body (drop 1 s)))
-
--- 34 words
-unfoldable pub words_access : Access → List ℕ
-words_access accessv.Reading = 1 ∷ replicate 33 0
-words_access accessv.Writing = 2 ∷ replicate 33 0
-words_access accessv.Waiting = 3 ∷ replicate 33 0
-words_access (accessv.Command x command) = 4 ∷ (x % 4294967296) ∷ (x / 4294967296) ∷ (words_command command) ++ (replicate 10 0)
-words_access (accessv.Under x locked) = 5 ∷ x ∷ words_locked locked
-
-unfoldable pub get_access : List ℕ → Access
-get_access s =
-    pick (eqb (word_at s 0) 1) (accessv.Reading) (
-    pick (eqb (word_at s 0) 2) (accessv.Writing) (
-    pick (eqb (word_at s 0) 3) (accessv.Waiting) (
-    pick (eqb (word_at s 0) 4) (accessv.Command (joined (word_at s 1) (word_at s 2)) (get_command (drop 3 s))) (
-    accessv.Under (word_at s 1) (get_locked (drop 2 s))))))
+unfoldable pub get_access_place : List ℕ → AccessPlace
+get_access_place s =
+    pick (eqb (word_at s 0) 1) (access_placev.Reading) (
+    pick (eqb (word_at s 0) 2) (access_placev.Writing) (
+    pick (eqb (word_at s 0) 3) (access_placev.Waiting) (
+    pick (eqb (word_at s 0) 4) (access_placev.Sync (get_sync_for (drop 1 s)) (get_sync (drop 12 s))) (
+    pick (eqb (word_at s 0) 5) (access_placev.Exchange (get_command_for (drop 1 s)) (get_exchange (drop 4 s))) (
+    pick (eqb (word_at s 0) 6) (access_placev.Body (get_body (drop 1 s))) (
+    access_placev.Pausing (word_at s 1)))))))

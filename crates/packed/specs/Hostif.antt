@@ -1,28 +1,11 @@
 -- The words of hostif's states: a kind from 1 on, its numbers, its parts, and zeros up to the type's width
-use Rattle.std.specs.Prelude.{ℕ, ◌%◌, ◌/◌, List, [], ◌∷◌, ◌++◌, eqb, drop, replicate}
+use Rattle.std.specs.Prelude.{ℕ, ◌%◌, ◌/◌, List, [], ◌∷◌, eqb, drop, replicate}
 use Rattle.hardware.specs.Talk.{pick}
 use Rattle.packed.specs.Tape.{word_at, joined}
-use Rattle.hostif.specs.declared.command.Command.TheVariants as commandv
-use Rattle.hostif.specs.declared.command.Command.{Command}
-use Rattle.hostif.specs.declared.command.CommandPlace.TheVariants as command_placev
-use Rattle.hostif.specs.declared.command.CommandPlace.{CommandPlace}
 use Rattle.hostif.specs.declared.exchange.Exchange.TheVariants as exchangev
 use Rattle.hostif.specs.declared.exchange.Exchange.{Exchange}
 use Rattle.hostif.specs.declared.post.Post.TheVariants as postv
 use Rattle.hostif.specs.declared.post.Post.{Post}
-use Rattle.packed.specs.Hardware.{get_error, words_error}
-use Rattle.packed.specs.Packed.{get_result, get_word, words_result, words_word}
-use Rattle.packed.specs.Sync.{get_sync, words_sync}
-
--- 7 words
-unfoldable pub words_command_place : CommandPlace → List ℕ
-words_command_place command_placev.Acquiring = 1 ∷ replicate 6 0
-words_command_place (command_placev.Releasing word_or_error) = 2 ∷ words_result 1 5 words_word words_error word_or_error
-
-unfoldable pub get_command_place : List ℕ → CommandPlace
-get_command_place s =
-    pick (eqb (word_at s 0) 1) (command_placev.Acquiring) (
-    command_placev.Releasing (get_result get_word get_error (drop 1 s)))
 
 -- 4 words
 unfoldable pub words_post : Post → List ℕ
@@ -55,13 +38,3 @@ get_exchange s =
     pick (eqb (word_at s 0) 1) (exchangev.Post (get_post (drop 1 s))) (
     pick (eqb (word_at s 0) 2) (exchangev.Head (word_at s 1)) (
     exchangev.Rest (word_at s 1) (joined (word_at s 2) (word_at s 3)) (word_at s 4)))
-
--- 21 words
-unfoldable pub words_command : Command → List ℕ
-words_command (commandv.Sync command_place sync) = 1 ∷ (words_command_place command_place) ++ (words_sync sync)
-words_command (commandv.Body exchange) = 2 ∷ (words_exchange exchange) ++ (replicate 15 0)
-
-unfoldable pub get_command : List ℕ → Command
-get_command s =
-    pick (eqb (word_at s 0) 1) (commandv.Sync (get_command_place (drop 1 s)) (get_sync (drop 8 s))) (
-    commandv.Body (get_exchange (drop 1 s)))

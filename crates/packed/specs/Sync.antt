@@ -1,7 +1,7 @@
 -- The words of sync's states: a kind from 1 on, its numbers, its parts, and zeros up to the type's width
 use Rattle.std.specs.Prelude.{ℕ, List, [], ◌∷◌, ◌++◌, eqb, drop, replicate}
 use Rattle.hardware.specs.Talk.{pick}
-use Rattle.packed.specs.Tape.{word_at, is, flag_of}
+use Rattle.packed.specs.Tape.{word_at}
 use Rattle.packed.specs.Hardware.{get_error, words_error}
 use Rattle.packed.specs.Packed.{get_nothing, get_result, words_nothing, words_result}
 use Rattle.sync.specs.declared.acquire_bits.AcquireBits.TheVariants as acquire_bitsv
@@ -117,12 +117,12 @@ get_release_bits s =
     pick (eqb (word_at s 0) 4) (release_bitsv.Unlocking (get_result get_nothing get_error (drop 1 s)) (get_unlock (drop 7 s))) (
     release_bitsv.Waiting))))
 
--- 13 words
+-- 10 words
 unfoldable pub words_sync : Sync → List ℕ
-words_sync (syncv.Take regs y acquire_bits) = 1 ∷ regs.swsm ∷ regs.sync ∷ (flag_of y) ∷ words_acquire_bits acquire_bits
-words_sync (syncv.Give regs release_bits) = 2 ∷ regs.swsm ∷ regs.sync ∷ (words_release_bits release_bits) ++ (0 ∷ [])
+words_sync (syncv.Take acquire_bits) = 1 ∷ words_acquire_bits acquire_bits
+words_sync (syncv.Give release_bits) = 2 ∷ words_release_bits release_bits
 
 unfoldable pub get_sync : List ℕ → Sync
 get_sync s =
-    pick (eqb (word_at s 0) 1) (syncv.Take (record { swsm = (word_at s 1); sync = (word_at s 2) }) (is (word_at s 3)) (get_acquire_bits (drop 4 s))) (
-    syncv.Give (record { swsm = (word_at s 1); sync = (word_at s 2) }) (get_release_bits (drop 3 s)))
+    pick (eqb (word_at s 0) 1) (syncv.Take (get_acquire_bits (drop 1 s))) (
+    syncv.Give (get_release_bits (drop 1 s)))

@@ -1,14 +1,14 @@
 // The states of access as words, and back.
-ghost use Rattle.packed.specs.Access.{get_access, get_bits_place, get_body, get_held, get_hold, get_hold_place, get_locked, get_token_place, words_access, words_bits_place, words_body, words_held, words_hold, words_hold_place, words_locked, words_token_place};
+ghost use Rattle.packed.specs.Access.{get_access_place, get_bits_place, get_body, get_command_for, get_command_place, get_held, get_hold_for, get_sync_for, get_token_place, words_access_place, words_bits_place, words_body, words_command_for, words_command_place, words_held, words_hold_for, words_sync_for, words_token_place};
 
 use crate::packed::Packed;
 use crate::read::{after, half, joined, word_at};
 use crate::tape::{long, wide, word, zeros};
-use access::access::Access;
 use access::body::{Body, Held};
-use access::hold::{BitsPlace, Hold, TokenPlace};
-use access::locked::{HoldPlace, Locked};
-use hostif::command::Command;
+use access::place::{
+    AccessPlace, BitsPlace, CommandFor, CommandPlace, HoldFor, SyncFor, TokenPlace,
+};
+use hostif::exchange::Exchange;
 use mdio::mdio::{Mdio, Wanted};
 use sideband::kr_access::{Kr, KrWanted};
 use sideband::nvm::Nvm;
@@ -51,39 +51,39 @@ impl Packed for Held {
     }
 }
 
-impl Packed for HoldPlace {
-    ghost words = { words_hold_place };
+impl Packed for HoldFor {
+    ghost words = { words_hold_for };
 
-    ghost read = { get_hold_place };
+    ghost read = { get_hold_for };
 
-    #[tactic(auto, unfolding(crate::specs::Access::words_hold_place, crate::specs::Access::get_hold_place, crate::specs::Tape::word_at))]
+    #[tactic(auto, unfolding(crate::specs::Access::words_hold_for, crate::specs::Access::get_hold_for, crate::specs::Tape::word_at))]
     fn put(self, tape: &mut [u32; 65], at: usize) -> usize {
         match self {
-            HoldPlace::Alone => {
+            HoldFor::Alone => {
                 let at = word(tape, at, 1);
                 zeros(tape, at, 6)
             },
-            HoldPlace::Acquiring(held) => {
+            HoldFor::Acquiring(held) => {
                 let at = word(tape, at, 2);
                 let at = held.put(tape, at);
                 zeros(tape, at, 2)
             },
-            HoldPlace::Releasing(word_or_error) => {
+            HoldFor::Releasing(word_or_error) => {
                 let at = word(tape, at, 3);
                 word_or_error.put(tape, at)
             },
         }
     }
 
-    #[tactic(auto, unfolding(crate::specs::Access::get_hold_place))]
-    fn get(tape: &[u32], at: usize) -> HoldPlace {
+    #[tactic(auto, unfolding(crate::specs::Access::get_hold_for))]
+    fn get(tape: &[u32], at: usize) -> HoldFor {
         let kind = word_at(tape, at, 0);
         if kind == 1 {
-            HoldPlace::Alone
+            HoldFor::Alone
         } else if kind == 2 {
-            HoldPlace::Acquiring(Held::get(tape, after(tape, at, 1)))
+            HoldFor::Acquiring(Held::get(tape, after(tape, at, 1)))
         } else {
-            HoldPlace::Releasing(Result::get(tape, after(tape, at, 1)))
+            HoldFor::Releasing(Result::get(tape, after(tape, at, 1)))
         }
     }
 }
@@ -163,48 +163,97 @@ impl Packed for TokenPlace {
     }
 }
 
-impl Packed for Hold {
-    ghost words = { words_hold };
+impl Packed for CommandFor {
+    ghost words = { words_command_for };
 
-    ghost read = { get_hold };
+    ghost read = { get_command_for };
 
-    #[tactic(auto, unfolding(crate::specs::Access::words_hold, crate::specs::Access::get_hold, crate::specs::Tape::word_at))]
+    #[tactic(auto, using(crate::proofs::Laws::word_then, crate::proofs::Laws::joined_back), unfolding(crate::specs::Access::words_command_for, crate::specs::Access::get_command_for, crate::specs::Tape::word_at))]
     fn put(self, tape: &mut [u32; 65], at: usize) -> usize {
         match self {
-            Hold::Bits(bits_place, sync) => {
+            CommandFor::Job(x) => {
                 let at = word(tape, at, 1);
-                let at = bits_place.put(tape, at);
-                let at = sync.put(tape, at);
-                zeros(tape, at, 2)
+                long(tape, at, x)
             },
-            Hold::Token(token_place, command) => {
+            CommandFor::Token(token_place) => {
                 let at = word(tape, at, 2);
-                let at = token_place.put(tape, at);
-                command.put(tape, at)
-            },
-            Hold::Pausing(x) => {
-                let at = word(tape, at, 3);
-                let at = word(tape, at, x);
-                zeros(tape, at, 22)
+                token_place.put(tape, at)
             },
         }
     }
 
-    #[tactic(auto, unfolding(crate::specs::Access::get_hold))]
-    fn get(tape: &[u32], at: usize) -> Hold {
+    #[tactic(auto, unfolding(crate::specs::Access::get_command_for))]
+    fn get(tape: &[u32], at: usize) -> CommandFor {
         let kind = word_at(tape, at, 0);
         if kind == 1 {
-            Hold::Bits(
-                BitsPlace::get(tape, after(tape, at, 1)),
-                Sync::get(tape, after(tape, at, 9)),
-            )
-        } else if kind == 2 {
-            Hold::Token(
-                TokenPlace::get(tape, after(tape, at, 1)),
-                Command::get(tape, after(tape, at, 3)),
-            )
+            CommandFor::Job(joined(word_at(tape, at, 1), word_at(tape, at, 2)))
         } else {
-            Hold::Pausing(word_at(tape, at, 1))
+            CommandFor::Token(TokenPlace::get(tape, after(tape, at, 1)))
+        }
+    }
+}
+
+impl Packed for CommandPlace {
+    ghost words = { words_command_place };
+
+    ghost read = { get_command_place };
+
+    #[tactic(auto, using(crate::proofs::Laws::word_then), unfolding(crate::specs::Access::words_command_place, crate::specs::Access::get_command_place, crate::specs::Tape::word_at))]
+    fn put(self, tape: &mut [u32; 65], at: usize) -> usize {
+        match self {
+            CommandPlace::Acquiring => {
+                let at = word(tape, at, 1);
+                zeros(tape, at, 6)
+            },
+            CommandPlace::Releasing(word_or_error) => {
+                let at = word(tape, at, 2);
+                word_or_error.put(tape, at)
+            },
+        }
+    }
+
+    #[tactic(auto, unfolding(crate::specs::Access::get_command_place))]
+    fn get(tape: &[u32], at: usize) -> CommandPlace {
+        let kind = word_at(tape, at, 0);
+        if kind == 1 {
+            CommandPlace::Acquiring
+        } else {
+            CommandPlace::Releasing(Result::get(tape, after(tape, at, 1)))
+        }
+    }
+}
+
+impl Packed for SyncFor {
+    ghost words = { words_sync_for };
+
+    ghost read = { get_sync_for };
+
+    #[tactic(auto, unfolding(crate::specs::Access::words_sync_for, crate::specs::Access::get_sync_for, crate::specs::Tape::word_at))]
+    fn put(self, tape: &mut [u32; 65], at: usize) -> usize {
+        match self {
+            SyncFor::Bits(bits_place) => {
+                let at = word(tape, at, 1);
+                let at = bits_place.put(tape, at);
+                zeros(tape, at, 2)
+            },
+            SyncFor::Command(command_for, command_place) => {
+                let at = word(tape, at, 2);
+                let at = command_for.put(tape, at);
+                command_place.put(tape, at)
+            },
+        }
+    }
+
+    #[tactic(auto, unfolding(crate::specs::Access::get_sync_for))]
+    fn get(tape: &[u32], at: usize) -> SyncFor {
+        let kind = word_at(tape, at, 0);
+        if kind == 1 {
+            SyncFor::Bits(BitsPlace::get(tape, after(tape, at, 1)))
+        } else {
+            SyncFor::Command(
+                CommandFor::get(tape, after(tape, at, 1)),
+                CommandPlace::get(tape, after(tape, at, 4)),
+            )
         }
     }
 }
@@ -254,91 +303,73 @@ impl Packed for Body {
     }
 }
 
-impl Packed for Locked {
-    ghost words = { words_locked };
+impl Packed for AccessPlace {
+    ghost words = { words_access_place };
 
-    ghost read = { get_locked };
+    ghost read = { get_access_place };
 
-    #[tactic(auto, unfolding(crate::specs::Access::words_locked, crate::specs::Access::get_locked, crate::specs::Tape::word_at))]
+    #[tactic(auto, unfolding(crate::specs::Access::words_access_place, crate::specs::Access::get_access_place, crate::specs::Tape::word_at))]
     fn put(self, tape: &mut [u32; 65], at: usize) -> usize {
         match self {
-            Locked::Hold(hold_place, hold) => {
+            AccessPlace::Reading => {
                 let at = word(tape, at, 1);
-                let at = hold_place.put(tape, at);
-                hold.put(tape, at)
+                zeros(tape, at, 21)
             },
-            Locked::Body(body) => {
+            AccessPlace::Writing => {
                 let at = word(tape, at, 2);
-                let at = body.put(tape, at);
-                zeros(tape, at, 23)
+                zeros(tape, at, 21)
             },
-        }
-    }
-
-    #[tactic(auto, unfolding(crate::specs::Access::get_locked))]
-    fn get(tape: &[u32], at: usize) -> Locked {
-        let kind = word_at(tape, at, 0);
-        if kind == 1 {
-            Locked::Hold(
-                HoldPlace::get(tape, after(tape, at, 1)),
-                Hold::get(tape, after(tape, at, 8)),
-            )
-        } else {
-            Locked::Body(Body::get(tape, after(tape, at, 1)))
-        }
-    }
-}
-
-impl Packed for Access {
-    ghost words = { words_access };
-
-    ghost read = { get_access };
-
-    #[tactic(auto, using(crate::proofs::Laws::joined_back), unfolding(crate::specs::Access::words_access, crate::specs::Access::get_access, crate::specs::Tape::word_at))]
-    fn put(self, tape: &mut [u32; 65], at: usize) -> usize {
-        match self {
-            Access::Reading => {
-                let at = word(tape, at, 1);
-                zeros(tape, at, 33)
-            },
-            Access::Writing => {
-                let at = word(tape, at, 2);
-                zeros(tape, at, 33)
-            },
-            Access::Waiting => {
+            AccessPlace::Waiting => {
                 let at = word(tape, at, 3);
-                zeros(tape, at, 33)
+                zeros(tape, at, 21)
             },
-            Access::Command(x, command) => {
+            AccessPlace::Sync(sync_for, sync) => {
                 let at = word(tape, at, 4);
-                let at = long(tape, at, x);
-                let at = command.put(tape, at);
-                zeros(tape, at, 10)
+                let at = sync_for.put(tape, at);
+                sync.put(tape, at)
             },
-            Access::Under(x, locked) => {
+            AccessPlace::Exchange(command_for, exchange) => {
                 let at = word(tape, at, 5);
+                let at = command_for.put(tape, at);
+                let at = exchange.put(tape, at);
+                zeros(tape, at, 13)
+            },
+            AccessPlace::Body(body) => {
+                let at = word(tape, at, 6);
+                let at = body.put(tape, at);
+                zeros(tape, at, 13)
+            },
+            AccessPlace::Pausing(x) => {
+                let at = word(tape, at, 7);
                 let at = word(tape, at, x);
-                locked.put(tape, at)
+                zeros(tape, at, 20)
             },
         }
     }
 
-    #[tactic(auto, unfolding(crate::specs::Access::get_access))]
-    fn get(tape: &[u32], at: usize) -> Access {
+    #[tactic(auto, unfolding(crate::specs::Access::get_access_place))]
+    fn get(tape: &[u32], at: usize) -> AccessPlace {
         let kind = word_at(tape, at, 0);
         if kind == 1 {
-            Access::Reading
+            AccessPlace::Reading
         } else if kind == 2 {
-            Access::Writing
+            AccessPlace::Writing
         } else if kind == 3 {
-            Access::Waiting
+            AccessPlace::Waiting
         } else if kind == 4 {
-            Access::Command(
-                joined(word_at(tape, at, 1), word_at(tape, at, 2)),
-                Command::get(tape, after(tape, at, 3)),
+            AccessPlace::Sync(
+                SyncFor::get(tape, after(tape, at, 1)),
+                Sync::get(tape, after(tape, at, 12)),
             )
+        } else if kind == 5 {
+            AccessPlace::Exchange(
+                CommandFor::get(tape, after(tape, at, 1)),
+                Exchange::get(tape, after(tape, at, 4)),
+            )
+        } else if kind == 6 {
+            AccessPlace::Body(Body::get(tape, after(tape, at, 1)))
         } else {
-            Access::Under(word_at(tape, at, 1), Locked::get(tape, after(tape, at, 2)))
+            AccessPlace::Pausing(word_at(tape, at, 1))
         }
     }
 }

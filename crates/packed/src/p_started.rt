@@ -2,12 +2,14 @@
 ghost use Rattle.packed.specs.Started.{get_place, words_place};
 
 use crate::packed::Packed;
-use crate::read::{after, joined, word_at};
-use crate::tape::{long, word, zeros};
-use access::access::{Access, Ended};
+use crate::read::{after, is, joined, word_at};
+use crate::tape::{flag, long, word, zeros};
+use access::frame::Frame;
+use access::place::{Access, AccessPlace, HoldFor, Under};
 use after::After;
 use answers::Value;
-use hardware::{Action, Step};
+use hardware::{Action, Regs, Step};
+use jobs::job::Ended;
 use started::operation::Op;
 
 impl Packed for Step<Action, Op, Ended<Value>> {
@@ -15,7 +17,7 @@ impl Packed for Step<Action, Op, Ended<Value>> {
 
     ghost read = { get_place };
 
-    #[tactic(auto, using(crate::proofs::Laws::joined_back), unfolding(crate::specs::Started::words_place, crate::specs::Started::get_place, crate::specs::Tape::word_at))]
+    #[tactic(auto, using(crate::proofs::Laws::is_flag, crate::proofs::Laws::joined_back), unfolding(crate::specs::Started::words_place, crate::specs::Started::get_place, crate::specs::Tape::word_at))]
     fn put(self, tape: &mut [u32; 65], at: usize) -> usize {
         match self {
             Step::Done(ended) => {
@@ -26,8 +28,14 @@ impl Packed for Step<Action, Op, Ended<Value>> {
             },
             Step::Ask(action, op) => {
                 let at = word(tape, at, 2);
+                let at = word(tape, at, op.access.under.frame.regs.swsm);
+                let at = word(tape, at, op.access.under.frame.regs.sync);
+                let at = word(tape, at, op.access.under.frame.lan);
+                let at = word(tape, at, op.access.under.frame.mask);
+                let at = flag(tape, at, op.access.under.frame.mux);
                 let at = action.put(tape, at);
-                let at = op.access.put(tape, at);
+                let at = op.access.under.hold.put(tape, at);
+                let at = op.access.place.put(tape, at);
                 op.after.put(tape, at)
             },
         }
@@ -43,10 +51,24 @@ impl Packed for Step<Action, Op, Ended<Value>> {
             })
         } else {
             Step::Ask(
-                Action::get(tape, after(tape, at, 1)),
+                Action::get(tape, after(tape, at, 6)),
                 Op {
-                    access: Access::get(tape, after(tape, at, 4)),
-                    after: After::get(tape, after(tape, after(tape, at, 4), 34)),
+                    access: Access {
+                        under: Under {
+                            frame: Frame {
+                                regs: Regs {
+                                    swsm: word_at(tape, at, 1),
+                                    sync: word_at(tape, at, 2),
+                                },
+                                lan: word_at(tape, at, 3),
+                                mask: word_at(tape, at, 4),
+                                mux: is(word_at(tape, at, 5)),
+                            },
+                            hold: HoldFor::get(tape, after(tape, at, 9)),
+                        },
+                        place: AccessPlace::get(tape, after(tape, after(tape, at, 9), 7)),
+                    },
+                    after: After::get(tape, after(tape, after(tape, after(tape, at, 9), 7), 22)),
                 },
             )
         }

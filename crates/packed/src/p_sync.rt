@@ -2,9 +2,8 @@
 ghost use Rattle.packed.specs.Sync.{get_acquire_bits, get_clear, get_lock, get_release_bits, get_set_mux, get_smbi, get_sync, get_unlock, words_acquire_bits, words_clear, words_lock, words_release_bits, words_set_mux, words_smbi, words_sync, words_unlock};
 
 use crate::packed::Packed;
-use crate::read::{after, is, word_at};
-use crate::tape::{flag, word, zeros};
-use hardware::Regs;
+use crate::read::{after, word_at};
+use crate::tape::{word, zeros};
 use sync::acquire_bits::AcquireBits;
 use sync::lock::{Clear, Lock, Smbi, Unlock};
 use sync::release_bits::ReleaseBits;
@@ -316,22 +315,16 @@ impl Packed for Sync {
 
     ghost read = { get_sync };
 
-    #[tactic(auto, using(crate::proofs::Laws::is_flag), unfolding(crate::specs::Sync::words_sync, crate::specs::Sync::get_sync, crate::specs::Tape::word_at))]
+    #[tactic(auto, using(crate::proofs::Laws::word_then), unfolding(crate::specs::Sync::words_sync, crate::specs::Sync::get_sync, crate::specs::Tape::word_at))]
     fn put(self, tape: &mut [u32; 65], at: usize) -> usize {
         match self {
-            Sync::Take(regs, y, acquire_bits) => {
+            Sync::Take(acquire_bits) => {
                 let at = word(tape, at, 1);
-                let at = word(tape, at, regs.swsm);
-                let at = word(tape, at, regs.sync);
-                let at = flag(tape, at, y);
                 acquire_bits.put(tape, at)
             },
-            Sync::Give(regs, release_bits) => {
+            Sync::Give(release_bits) => {
                 let at = word(tape, at, 2);
-                let at = word(tape, at, regs.swsm);
-                let at = word(tape, at, regs.sync);
-                let at = release_bits.put(tape, at);
-                word(tape, at, 0)
+                release_bits.put(tape, at)
             },
         }
     }
@@ -340,22 +333,9 @@ impl Packed for Sync {
     fn get(tape: &[u32], at: usize) -> Sync {
         let kind = word_at(tape, at, 0);
         if kind == 1 {
-            Sync::Take(
-                Regs {
-                    swsm: word_at(tape, at, 1),
-                    sync: word_at(tape, at, 2),
-                },
-                is(word_at(tape, at, 3)),
-                AcquireBits::get(tape, after(tape, at, 4)),
-            )
+            Sync::Take(AcquireBits::get(tape, after(tape, at, 1)))
         } else {
-            Sync::Give(
-                Regs {
-                    swsm: word_at(tape, at, 1),
-                    sync: word_at(tape, at, 2),
-                },
-                ReleaseBits::get(tape, after(tape, at, 3)),
-            )
+            Sync::Give(ReleaseBits::get(tape, after(tape, at, 1)))
         }
     }
 }

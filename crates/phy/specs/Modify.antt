@@ -1,12 +1,12 @@
 -- What a suspended `modify` still says, from what its job gives
-use Rattle.access.specs.Access.{told_job}
+use Rattle.jobs.specs.Job.{told_job}
 use Rattle.hardware.specs.declared.Step.{Step}
 use Rattle.hardware.specs.Talk.{Call, Res, end, and_then, ◌>>=◌, return}
 use Rattle.std.specs.Prelude.{ℕ, List}
 use Rattle.hardware.specs.declared.Port.{Port}
 use Rattle.reference.specs.Mdio as mdio
-use Rattle.access.specs.Access.{job_talk}
-use Rattle.access.specs.declared.access.Job.{Job}
+use Rattle.jobs.specs.Job.{job_talk}
+use Rattle.jobs.specs.declared.job.Job.{Job}
 use Rattle.phy.specs.declared.modify.Modify.{Modify}
 use Rattle.phy.specs.declared.modify.Modify.TheVariants as modify
 use Rattle.arguments.specs.declared.Register.{Register}

@@ -1,13 +1,13 @@
 -- What a suspended `probe` still says, from what its job gives
-use Rattle.access.specs.Access.{told_job}
+use Rattle.jobs.specs.Job.{told_job}
 use Rattle.hardware.specs.declared.Step.{Step}
 use Rattle.hardware.specs.Talk.{Call, Res, end, and_then, ◌>>=◌, return}
 use Rattle.std.specs.Prelude.{ℕ, List, Option}
 use Rattle.hardware.specs.declared.Port.{Port}
 use Rattle.words.specs.Phy.{phy_id}
 use Rattle.reference.specs.Mdio.{probe_high}
-use Rattle.access.specs.Access.{job_talk}
-use Rattle.access.specs.declared.access.Job.{Job}
+use Rattle.jobs.specs.Job.{job_talk}
+use Rattle.jobs.specs.declared.job.Job.{Job}
 use Rattle.phy.specs.declared.probe.Probe.{Probe}
 use Rattle.phy.specs.declared.probe.Probe.TheVariants as probe
 

@@ -1,6 +1,6 @@
 -- What a suspended `reset` still says, from what its job gives
-use Rattle.access.specs.declared.access.Job.{Job}
-use Rattle.access.specs.Access.{told_job}
+use Rattle.jobs.specs.declared.job.Job.{Job}
+use Rattle.jobs.specs.Job.{told_job}
 use Rattle.hardware.specs.declared.Step.{Step}
 use Rattle.hardware.specs.Talk.{Call, Res, end, pick, is_clear, ◌>>=◌, return, fail}
 use Rattle.std.specs.Prelude.{ℕ, Bool, List}

@@ -5,10 +5,10 @@ ghost use Rattle.phy.specs.Modify.{told_modify};
 ghost use Rattle.phy.specs.Advertise.{register_at, register_of, advertise_of, advertise_at, advertise_then, advertise_after, resume_advertise, told_advertise};
 
 use crate::modify::Modify;
-use access::access::Job;
 use answers::Speeds;
 use arguments::{Advertised, Register};
 use hardware::{Error, Port, Step};
+use jobs::job::Job;
 
 // Which call of modify: the register of each speed, and the restart.
 #[derive(Clone, Copy)]

@@ -3,9 +3,9 @@ ghost use Rattle.std.specs.Prelude.{ℕ, List, ◌≡◌};
 ghost use Rattle.reference.specs.Mdio.{an_link};
 ghost use Rattle.phy.specs.AnLink.{resume_an_link, told_an_link};
 
-use access::access::Job;
 use arguments::Register;
 use hardware::{Error, Port, Step};
+use jobs::job::Job;
 
 // Which read. The bit latches low, so the first says what was. It ends with whether the link is up.
 #[derive(Clone, Copy)]

@@ -4,8 +4,8 @@ ghost use Rattle.reference.specs.X552.{mdcspd, mdio_clock};
 ghost use Rattle.reference.specs.X553.{firmware_phy, slow_device};
 ghost use Rattle.phy.specs.Clock.{speed_of, resume_clock, told_clock};
 
-use access::access::Job;
 use hardware::{Error, Family, Port, Step};
+use jobs::job::Job;
 
 #[derive(Clone, Copy)]
 pub enum Clock {

@@ -2,9 +2,9 @@
 ghost use Rattle.std.specs.Prelude.{ℕ, List, ◌≡◌};
 ghost use Rattle.phy.specs.Modify.{modify_of, begun_modify, resume_modify, told_modify};
 
-use access::access::Job;
 use arguments::Register;
 use hardware::{Error, Port, Step};
+use jobs::job::Job;
 
 // It ends with the value written.
 #[derive(Clone, Copy)]

@@ -3,9 +3,9 @@ ghost use Rattle.std.specs.Prelude.{ℕ, List, ◌≡◌};
 ghost use Rattle.reference.specs.Mdio.{probe, probe_high};
 ghost use Rattle.phy.specs.Probe.{begun_probe, resume_probe, told_probe};
 
-use access::access::Job;
 use arguments::Register;
 use hardware::{Error, Port, Step};
+use jobs::job::Job;
 use words::phy_identifier::phy_id;
 
 // It ends with the PHY's id, or None where no PHY answers.

@@ -4,9 +4,9 @@ ghost use Rattle.hardware.specs.Talk.{end};
 ghost use Rattle.reference.specs.Mdio.{reset, reset_times, reset_poll};
 ghost use Rattle.phy.specs.Reset.{reset_checked, reset_seen, resume_reset, told_reset};
 
-use access::access::Job;
 use arguments::Register;
 use hardware::{Error, Port, Step};
+use jobs::job::Job;
 
 // The number is how many polls are left after this one.
 #[derive(Clone, Copy)]
@@ -81,7 +81,7 @@ impl Reset {
         }
     }
 
-    #[tactic(auto, using(hardware::proofs::Laws::then_assoc, access::proofs::Laws::wrote), unfolding(reference::specs::Mdio::reset))]
+    #[tactic(auto, using(hardware::proofs::Laws::then_assoc, jobs::proofs::Laws::wrote), unfolding(reference::specs::Mdio::reset))]
     pub fn start(phy: u32, x557: bool, port: Port) -> Step<Job, Reset, Result<(), Error>>
         ensures { (b : List ℕ) → told_reset port phy x557 b result ≡ reset port phy x557 }
     {

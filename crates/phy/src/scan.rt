@@ -5,8 +5,8 @@ ghost use Rattle.phy.specs.Probe.{told_probe};
 ghost use Rattle.phy.specs.Scan.{scan_after, resume_scan, told_scan};
 
 use crate::probe::Probe;
-use access::access::Job;
 use hardware::{Error, Port, Step};
+use jobs::job::Job;
 
 // The PHY that is probed. It ends with the first PHY that answers and its id, or None.
 #[derive(Clone, Copy)]

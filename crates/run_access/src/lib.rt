@@ -2,8 +2,5 @@
 #![tactic(auto)]
 
 pub mod body;
-pub mod command;
-pub mod hold;
 pub mod lent;
-pub mod locked;
 pub mod under;

@@ -2,50 +2,58 @@
 ghost use Rattle.std.specs.Prelude.{take};
 ghost use Rattle.access.specs.Access.{resume_access};
 
-use crate::lent::{Lent, Runs, run, single};
-use access::access::{Access, Ended};
-use access::locked::LockedCall;
-use drive::Host;
-use hardware::{Action, Error, Port, Reply, Step};
+use crate::body;
+use crate::lent::{Lent, Runs, single};
+use access::place::{Access, AccessPlace};
+use drive::{Host, machine};
+use hardware::{Action, Error, Reply, Step};
+use jobs::job::Ended;
 
 impl Lent for Access {
-    type Context = Port;
+    // all that it was given is in its frame
+    type Context = ();
 
     type Answer = Ended<u32>;
 
     // the word, and the words of the block that belong to it
     type End = (Result<u32, Error>, [u32; 16]);
 
-    ghost resume = { λ port s b r. resume_access port s b r };
+    ghost resume = { λ c s b r. resume_access s b r };
 
-    ghost end = { λ port b given. (given.answer, take given.words b) };
+    ghost end = { λ c b given. (given.answer, take given.words b) };
 
     fn next(
         self,
-        port: Port,
+        context: (),
         block: &mut [u32; 16],
         reply: Reply,
     ) -> Step<Action, Access, Ended<u32>> {
-        Access::next(self, port, block, reply)
+        Access::next(self, block, reply)
     }
 }
 
 impl Runs for Access {
-    // What is done under a lock as far as it goes; of anything else, one action.
+    // acquire_bits, release_bits and the body as far as they go; of anything else, one action.
     fn advance(
         self,
         a: Action,
-        port: Port,
+        context: (),
         block: &mut [u32; 16],
         h: &mut Host,
         replies: &[u32],
         t: &mut [u32],
     ) -> Step<Action, Access, Ended<u32>> {
-        if let Access::Under(mask, m) = self {
-            let call = LockedCall { port, mask };
-            let step = run(m, a, call, block, h, replies, t);
-            return Access::under(call, step);
+        let under = self.under;
+        match self.place {
+            AccessPlace::Sync(why, m) => {
+                let step = machine::run(m, a, under.call(why), h, replies, t);
+                under.synced(block, why, step)
+            }
+            AccessPlace::Body(m) => {
+                let step = body::run(m, a, h, replies, t);
+                under.bodied(block, step)
+            }
+            _ => single(self, a, context, block, h, replies, t),
         }
-        single(self, a, port, block, h, replies, t)
     }
 }

@@ -9,5 +9,5 @@ use Rattle.start.specs.declared.start.First.{First}
 use Rattle.start.specs.declared.start.First.TheVariants as first
 
 abbrev pub told_first : Port → List ℕ → First → Talk Out
-told_first port b (first.Access step) = and_then (told_access port b step) (λ p. after_nothing p.0)
+told_first port b (first.Access step) = and_then (told_access b step) (λ p. after_nothing p.0)
 told_first port b (first.After step) = told_after port b step

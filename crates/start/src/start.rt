@@ -5,7 +5,7 @@ ghost use Rattle.start.specs.First.{told_first};
 ghost use Rattle.operations.specs.Operations.{operation};
 ghost use Rattle.operations.specs.declared.Operation.TheVariants as ops;
 
-use access::access::{Access, Ended, Job};
+use access::place::Access;
 use activity::Activity;
 use after::After;
 use after::kr_registers::Kr;
@@ -14,7 +14,8 @@ use answers::Value;
 use arguments::{Advertised, Asked, Change, Register, Watch};
 use bringup::Bringup;
 use hardware::{Action, Managed, Port, Step};
-use hostif::token::Token;
+use jobs::job::{Ended, Job};
+use jobs::token::Token;
 use kr::modify::KrModify;
 use kr::sequence::{KrPlace, Sequence};
 use operations::Operation;
@@ -52,7 +53,7 @@ fn token(port: Port, take: bool, block: &mut [u32; 16]) -> Step<Job, After, Ende
     ensures { told_after port block.new result ≡ operation port (ops.Token take) [] }
 {
     let token = Token { take };
-    token.put(port, block);
+    token.put(port.lan, block);
     Step::Ask(Job::Command(2), After::Token(take))
 }
 

@@ -6,7 +6,7 @@ use Rattle.hardware.specs.declared.Port.{Port}
 use Rattle.started.specs.Operation.{told}
 use Rattle.hardware.specs.declared.Action.{Action}
 use Rattle.hardware.specs.declared.Step.{Step}
-use Rattle.access.specs.declared.access.Ended.{Ended}
+use Rattle.jobs.specs.declared.job.Ended.{Ended}
 use Rattle.answers.specs.declared.Value.{Value}
 use Rattle.started.specs.declared.operation.Op.{Op}
 

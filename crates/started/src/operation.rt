@@ -1,15 +1,17 @@
 // Where a begun operation stands.
 ghost use Rattle.std.specs.Prelude.{◌≡◌};
 ghost use Rattle.hardware.specs.Talk.{and_then};
-ghost use Rattle.access.specs.Access.{told_access, job_talk};
+ghost use Rattle.jobs.specs.Job.{job_talk};
+ghost use Rattle.access.specs.Access.{told_access};
 ghost use Rattle.after.specs.After.{out, resume_after, told_after};
 ghost use Rattle.started.specs.Operation.{resume_op, told};
 
-use access::access::{Access, Ended, Job};
+use access::place::{Access, Begun};
 use after::After;
 use answers::Value;
 use drive::Host;
 use hardware::{Action, Error, Port, Reply, Step};
+use jobs::job::{Ended, Job};
 use run_access::lent::{Lent, Runs, run};
 
 // A running operation, at the action that its access asks for.
@@ -30,7 +32,7 @@ impl Op {
     ) -> Step<Action, Op, Ended<Value>>
         ensures { told port result block.new ≡ and_then (job_talk port job block.old) (λ p. resume_after port after p.0 p.1) }
     {
-        let begun = job.start(port, block);
+        let begun = Begun::of(job, port, block);
         let access = begun.access;
         Step::Ask(begun.action, Op { access, after })
     }
@@ -56,7 +58,7 @@ impl Op {
         block: &mut [u32; 16],
         step: Step<Action, Access, Ended<u32>>,
     ) -> Step<Action, Op, Ended<Value>>
-        ensures { told port result block.new ≡ and_then (told_access port block.old step) (λ p. resume_after port after p.0 p.1) }
+        ensures { told port result block.new ≡ and_then (told_access block.old step) (λ p. resume_after port after p.0 p.1) }
     {
         match step {
             Step::Ask(a, access) => Step::Ask(a, Op { access, after }),
@@ -80,14 +82,13 @@ impl Lent for Op {
 
     ghost end = { λ port b ended. out b ended };
 
-    #[tactic(auto, using(hardware::proofs::Laws::then_assoc))]
     fn next(
         self,
         port: Port,
         block: &mut [u32; 16],
         reply: Reply,
     ) -> Step<Action, Op, Ended<Value>> {
-        let step = self.access.next(port, block, reply);
+        let step = self.access.next(block, reply);
         Op::stepped(port, self.after, block, step)
     }
 }
@@ -103,7 +104,7 @@ impl Runs for Op {
         replies: &[u32],
         t: &mut [u32],
     ) -> Step<Action, Op, Ended<Value>> {
-        let step = run(self.access, a, port, block, h, replies, t);
+        let step = run(self.access, a, (), block, h, replies, t);
         Op::stepped(port, self.after, block, step)
     }
 }

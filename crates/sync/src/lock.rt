@@ -101,6 +101,9 @@ impl Lock {
 
     pub const REGSMP: u32 = 0x8000_0000;
 
+    // at its first action, a read of SWSM
+    pub const FIRST: Lock = Lock::Smbi(Smbi::Reading(1999));
+
     #[tactic(auto, using(hardware::proofs::Laws::times_more, hardware::proofs::Laws::times_none))]
     fn again(regs: Regs, left: u32) -> Step<Action, Lock, Result<(), Error>>
         ensures { told_lock regs result ≡ regsmp_times regs left }

@@ -1,36 +1,40 @@
-// acquire_bits or release_bits of a port, with the register pair and the mux that it began with: no step looks them up again.
+// acquire_bits or release_bits, of a register pair, a mask and a mux that are chosen ahead: no step looks the family up.
 ghost use Rattle.std.specs.Prelude.{◌≡◌};
 ghost use Rattle.hardware.specs.Talk.{ask};
-ghost use Rattle.hardware.specs.Regs.{regs};
 ghost use Rattle.hardware.specs.declared.Action.TheVariants.{Read};
-ghost use Rattle.words.specs.Semaphore.{bits};
-ghost use Rattle.reference.specs.Sync.{mux, settle, acquire_bits, release_bits};
+ghost use Rattle.reference.specs.Sync.{settle};
 ghost use Rattle.sync.specs.Bits.{told_acquire, told_release};
-ghost use Rattle.sync.specs.Sync.{taken, given, resume_sync, told_sync};
+ghost use Rattle.sync.specs.Sync.{taken, given, take_bits, give_bits, resume_sync, told_sync};
 
 use crate::acquire_bits::{AcquireBits, Taking};
 use crate::lock::{Lock, Smbi};
 use crate::release_bits::{Giving, ReleaseBits};
+use crate::set_mux::SetMux;
 use drive::Host;
 use drive::machine::{Machine, Runs, run};
-use hardware::{Action, Error, Family, Port, Regs, Reply, Step};
+use hardware::{Action, Error, Port, Regs, Reply, Step};
 use words::semaphore::Bits;
+
+// What both are given, and again at each reply.
+#[derive(Clone, Copy)]
+pub struct SyncCall {
+    pub regs: Regs,
+    pub mask: u32,
+    // whether the mux is switched
+    pub mux: bool,
+}
 
 #[derive(Clone, Copy)]
 pub enum Sync {
-    Take(Regs, bool, AcquireBits),
-    Give(Regs, ReleaseBits),
+    Take(AcquireBits),
+    Give(ReleaseBits),
 }
 
-// mux: the X552's port 1 reaches the I2C segment through a mux.
-#[tactic(auto, unfolding(reference::specs::Mdio::mask, reference::specs::Sync::mux))]
-fn mux(port: Port, mask: u32) -> bool
-    ensures { mux port mask ≡ result }
-{
-    match port.family {
-        Family::X553 => false,
-        Family::X552 => port.lan == 1 && mask & Bits::I2C != 0,
-    }
+// Where acquire_bits or release_bits begins: its first action, and where it stands then.
+#[derive(Clone, Copy)]
+pub struct SyncBegun {
+    pub action: Action,
+    pub state: Sync,
 }
 
 // How long to wait after a release: PHY0, PHY1 and SW_MNG settle sooner.
@@ -45,106 +49,98 @@ fn settle(mask: u32) -> u32
     }
 }
 
-impl Sync {
-    fn taking(
-        regs: Regs,
-        mux: bool,
-        mask: u32,
-        step: Step<Action, AcquireBits, Result<(), Error>>,
-    ) -> Step<Action, Sync, Result<(), Error>>
-        ensures { told_sync mask result ≡ told_acquire (taken regs mask mux) step }
-    {
-        match step {
-            Step::Ask(a, s) => Step::Ask(a, Sync::Take(regs, mux, s)),
-            Step::Done(r) => Step::Done(r),
-        }
-    }
-
-    // What acquire_bits is given for a mask.
+impl SyncCall {
+    // What acquire_bits is given.
     #[tactic(auto, unfolding(crate::specs::Sync::taken))]
-    fn taken(regs: Regs, mask: u32, mux: bool) -> Taking
-        ensures { taken regs mask mux ≡ result }
+    fn taken(self) -> Taking
+        ensures { taken self ≡ result }
     {
         Taking {
-            regs,
-            want: Bits::from(mask),
-            mux,
+            regs: self.regs,
+            want: Bits::from(self.mask),
+            mux: self.mux,
         }
     }
 
-    // What release_bits is given for one.
+    // What release_bits is given.
     #[tactic(auto, unfolding(crate::specs::Sync::given))]
-    fn given(regs: Regs, mask: u32) -> Giving
-        ensures { given regs mask ≡ result }
+    fn given(self) -> Giving
+        ensures { given self ≡ result }
     {
         Giving {
-            regs,
-            sw: Bits::from(mask).sw,
-            micros: settle(mask),
+            regs: self.regs,
+            sw: Bits::from(self.mask).sw,
+            micros: settle(self.mask),
         }
     }
 
-    #[tactic(auto, unfolding(reference::specs::Mdio::mask, reference::specs::Sync::settle))]
-    fn giving(
-        regs: Regs,
-        mask: u32,
-        step: Step<Action, ReleaseBits, Result<(), Error>>,
+    // acquire_bits begins with a read of SWSM.
+    #[tactic(auto, unfolding(crate::specs::Sync::taken))]
+    pub fn take(self) -> SyncBegun
+        ensures { take_bits self ≡ ask result.action (λ x. resume_sync self result.state x) }
+    {
+        SyncBegun {
+            action: Action::Read(self.regs.swsm),
+            state: Sync::Take(AcquireBits::Locking(999, Lock::FIRST)),
+        }
+    }
+
+    // release_bits with one too, or with the mux.
+    #[tactic(auto, unfolding(crate::specs::Sync::given))]
+    pub fn give(self) -> SyncBegun
+        ensures { give_bits self ≡ ask result.action (λ x. resume_sync self result.state x) }
+    {
+        if self.mux {
+            SyncBegun {
+                action: Action::Read(Port::ESDP),
+                state: Sync::Give(ReleaseBits::Switching(SetMux::Reading)),
+            }
+        } else {
+            SyncBegun {
+                action: Action::Read(self.regs.swsm),
+                state: Sync::Give(ReleaseBits::Locking(Lock::FIRST)),
+            }
+        }
+    }
+}
+
+impl Sync {
+    fn taking(
+        call: SyncCall,
+        step: Step<Action, AcquireBits, Result<(), Error>>,
     ) -> Step<Action, Sync, Result<(), Error>>
-        ensures { told_sync mask result ≡ told_release (given regs mask) step }
+        ensures { told_sync call result ≡ told_acquire (taken call) step }
     {
         match step {
-            Step::Ask(a, s) => Step::Ask(a, Sync::Give(regs, s)),
+            Step::Ask(a, s) => Step::Ask(a, Sync::Take(s)),
             Step::Done(r) => Step::Done(r),
         }
     }
 
-    // acquire_bits at its first action, which is always a read of SWSM
-    #[tactic(auto, unfolding(reference::specs::Sync::acquire_bits))]
-    pub fn first(port: Port, mask: u32) -> Sync
-        ensures { acquire_bits port mask ≡ ask (Read (regs port.family).swsm) (λ x. resume_sync mask result x) }
+    fn giving(
+        call: SyncCall,
+        step: Step<Action, ReleaseBits, Result<(), Error>>,
+    ) -> Step<Action, Sync, Result<(), Error>>
+        ensures { told_sync call result ≡ told_release (given call) step }
     {
-        let lock = Lock::Smbi(Smbi::Reading(1999));
-        Sync::Take(
-            Regs::from(port.family),
-            mux(port, mask),
-            AcquireBits::Locking(999, lock),
-        )
-    }
-
-    // acquire_bits
-    pub fn take(port: Port, mask: u32) -> Step<Action, Sync, Result<(), Error>>
-        ensures { told_sync mask result ≡ acquire_bits port mask }
-    {
-        let regs = Regs::from(port.family);
-        Step::Ask(Action::Read(regs.swsm), Sync::first(port, mask))
-    }
-
-    // release_bits
-    #[tactic(auto, unfolding(reference::specs::Mdio::mask, reference::specs::Sync::release_bits))]
-    pub fn give(port: Port, mask: u32) -> Step<Action, Sync, Result<(), Error>>
-        ensures { told_sync mask result ≡ release_bits port mask }
-    {
-        let regs = Regs::from(port.family);
-        let giving = Sync::given(regs, mask);
-        Sync::giving(regs, mask, ReleaseBits::start(giving, mux(port, mask)))
+        match step {
+            Step::Ask(a, s) => Step::Ask(a, Sync::Give(s)),
+            Step::Done(r) => Step::Done(r),
+        }
     }
 }
 
 impl Machine for Sync {
-    // the mask
-    type Context = u32;
+    type Context = SyncCall;
 
     type Answer = Result<(), Error>;
 
     ghost resume = { resume_sync };
 
-    fn next(self, mask: u32, reply: Reply) -> Step<Action, Sync, Result<(), Error>> {
+    fn next(self, call: SyncCall, reply: Reply) -> Step<Action, Sync, Result<(), Error>> {
         match self {
-            Sync::Take(regs, mux, s) => {
-                let step = s.next(Sync::taken(regs, mask, mux), reply);
-                Sync::taking(regs, mux, mask, step)
-            }
-            Sync::Give(regs, s) => Sync::giving(regs, mask, s.next(Sync::given(regs, mask), reply)),
+            Sync::Take(s) => Sync::taking(call, s.next(call.taken(), reply)),
+            Sync::Give(s) => Sync::giving(call, s.next(call.given(), reply)),
         }
     }
 }
@@ -153,19 +149,19 @@ impl Runs for Sync {
     fn advance(
         self,
         a: Action,
-        mask: u32,
+        call: SyncCall,
         h: &mut Host,
         replies: &[u32],
         t: &mut [u32],
     ) -> Step<Action, Sync, Result<(), Error>> {
         match self {
-            Sync::Take(regs, mux, s) => {
-                let step = run(s, a, Sync::taken(regs, mask, mux), h, replies, t);
-                Sync::taking(regs, mux, mask, step)
+            Sync::Take(s) => {
+                let step = run(s, a, call.taken(), h, replies, t);
+                Sync::taking(call, step)
             }
-            Sync::Give(regs, s) => {
-                let step = run(s, a, Sync::given(regs, mask), h, replies, t);
-                Sync::giving(regs, mask, step)
+            Sync::Give(s) => {
+                let step = run(s, a, call.given(), h, replies, t);
+                Sync::giving(call, step)
             }
         }
     }

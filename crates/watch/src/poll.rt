@@ -5,10 +5,10 @@ ghost use Rattle.phy.specs.AnLink.{told_an_link};
 ghost use Rattle.reference.specs.Watch.{is_forced, poll_down};
 ghost use Rattle.watch.specs.Poll.{poll_of, same_of, force_of, speed_of, force_then, second_then, first_then, got_status, resume_poll, told_poll};
 
-use access::access::Job;
 use answers::{Copper, Internal};
 use arguments::{Left, Register, Watch};
 use hardware::{Error, Port, Step};
+use jobs::job::Job;
 use kr::sequence::{KrPlace, Sequence};
 use phy::an_link::AnLink;
 use words::link::copper;

@@ -6,10 +6,10 @@ ghost use Rattle.phy.specs.AnLink.{told_an_link};
 ghost use Rattle.reference.specs.X552.{without100, copper_advertise, copper_times, copper_able, copper_link};
 ghost use Rattle.x552.specs.Link.{asked_of, advertise_then, linking_then, links_then, ixfi_then, got_abilities, got_wait, got_links, resume_link, told_link};
 
-use access::access::Job;
 use answers::{CopperSetup, Internal, Speeds, X557};
 use arguments::{Advertised, Register};
 use hardware::{Error, Managed, Port, Step};
+use jobs::job::Job;
 use kr::sequence::{KrPlace, Sequence};
 use phy::abilities::speeds_of;
 use phy::advertise::Advertise;

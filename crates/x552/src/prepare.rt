@@ -8,10 +8,10 @@ ghost use Rattle.phy.specs.Scan.{told_scan};
 ghost use Rattle.reference.specs.X552.{internal_of, prepare_copper, prepare_sel};
 ghost use Rattle.x552.specs.Prepare.{sel_phy, stall_of, prepared_of, found_then, alarms_then, reset_then, clock_then, probe_then, scan_then, stall_then, done_then, got_sel, got_alarms, resume_prepare, told_prepare};
 
-use access::access::Job;
 use answers::{Internal, X557};
 use arguments::Register;
 use hardware::{Error, Family, Managed, Port, Step};
+use jobs::job::Job;
 use phy::clock::Clock;
 use phy::modify::Modify;
 use phy::probe::Probe;

@@ -1,6 +1,6 @@
 -- What a suspended `sgmii` still says, from what its job gives
-use Rattle.access.specs.declared.access.Job.{Job}
-use Rattle.access.specs.Access.{told_job_by}
+use Rattle.jobs.specs.declared.job.Job.{Job}
+use Rattle.jobs.specs.Job.{told_job_by}
 use Rattle.hardware.specs.declared.Step.{Step}
 use Rattle.hardware.specs.Talk.{Call, Res, ◌>>=◌, ◌>>◌, return}
 use Rattle.std.specs.Prelude.{ℕ, List, Err, Ok}

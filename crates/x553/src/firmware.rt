@@ -21,10 +21,10 @@ ghost use Rattle.x553.specs.Firmware.{
 
 use crate::prepare::{FirmwarePlace, FirmwarePrepared, asked, begin};
 use crate::sgmii_an::SgmiiAn;
-use access::access::{Ended, Job};
 use activity::Activity;
 use answers::{FirmwarePhy, FirmwareSetup, Words};
 use hardware::{Error, Managed, Port, Step};
+use jobs::job::{Ended, Job};
 
 #[derive(Clone, Copy)]
 pub enum SetupFirmware {

@@ -5,11 +5,11 @@ ghost use Rattle.reference.specs.Hostif.{phy_activity};
 ghost use Rattle.reference.specs.X553.{phy_info, prepare_info, prepare_firmware};
 ghost use Rattle.x553.specs.Prepare.{asked_with, begun_with, info_of, asked_of, info_then, place_at, place_then, place_done, resume_prepare, told_prepare};
 
-use access::access::{Ended, Job};
 use activity::Activity;
 use answers::{FirmwarePhy, Words};
 use arguments::Asked;
 use hardware::{Error, Managed, Port, Step};
+use jobs::job::{Ended, Job};
 
 // Which activity after the first.
 #[derive(Clone, Copy)]

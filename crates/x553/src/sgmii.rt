@@ -5,10 +5,10 @@ ghost use Rattle.kr.specs.Sequence.{told_sequence};
 ghost use Rattle.reference.specs.X553.{sgmii};
 ghost use Rattle.x553.specs.Sgmii.{ctrl_of, force_of, lane_of, ctrl_then, force_then, lane_then, restart_then, resume_sgmii, told_sgmii};
 
-use access::access::Job;
 use answers::SgmiiSetup;
 use arguments::Change;
 use hardware::{Error, Port, Step};
+use jobs::job::Job;
 use kr::modify::KrModify;
 use kr::sequence::{KrPlace, Sequence};
 

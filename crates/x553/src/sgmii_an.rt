@@ -5,9 +5,9 @@ ghost use Rattle.kr.specs.Sequence.{told_sequence};
 ghost use Rattle.reference.specs.X553.{sgmii_an};
 ghost use Rattle.x553.specs.SgmiiAn.{ctrl_of, force_of, lane_of, ctrl_then, force_then, lane_then, restart_then, got_again, resume_sgmii_an, told_sgmii_an};
 
-use access::access::Job;
 use arguments::Change;
 use hardware::{Error, Port, Step};
+use jobs::job::Job;
 use kr::modify::KrModify;
 use kr::sequence::{KrPlace, Sequence};
 use words::kr_address::krm;
@@ -89,7 +89,7 @@ impl SgmiiAn {
         }
     }
 
-    #[tactic(auto, using(hardware::proofs::Laws::then_assoc, access::proofs::Laws::wrote))]
+    #[tactic(auto, using(hardware::proofs::Laws::then_assoc, jobs::proofs::Laws::wrote))]
     fn after_force(
         port: Port,
         lc1: u32,

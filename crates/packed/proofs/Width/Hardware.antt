@@ -51,11 +51,11 @@ drop_action s rest = drop_at (words_action s) rest 3 (action_length s)
 pub word_or_error_length : (s : Result ℕ Error) → length (words_result 1 5 words_word words_error s) ≡ 6
 word_or_error_length = result_length _ _ (λ _. refl) error_length
 
+pub flag_or_error_length : (s : Result Bool Error) → length (words_result 1 5 words_flag words_error s) ≡ 6
+flag_or_error_length = result_length _ _ (λ _. refl) error_length
+
 pub nothing_or_error_length : (s : Result (Unit {0}) Error) → length (words_result 0 5 words_nothing words_error s) ≡ 6
 nothing_or_error_length = result_length _ _ (λ _. refl) error_length
 
 pub drop_nothing_or_error : (s : Result (Unit {0}) Error) (rest : List ℕ) → drop 6 (words_result 0 5 words_nothing words_error s ++ rest) ≡ rest
 drop_nothing_or_error s rest = drop_at (words_result 0 5 words_nothing words_error s) rest 6 (nothing_or_error_length s)
-
-pub flag_or_error_length : (s : Result Bool Error) → length (words_result 1 5 words_flag words_error s) ≡ 6
-flag_or_error_length = result_length _ _ (λ _. refl) error_length

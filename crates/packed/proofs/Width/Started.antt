@@ -1,14 +1,14 @@
 -- How many words each state of started is
 use mathlib.Core.Path.{◌≡◌}
 use lib.ListN.{length, length-append}
-use Rattle.access.specs.declared.access.Ended.{Ended}
 use Rattle.answers.specs.declared.Value.{Value}
 use Rattle.hardware.specs.declared.Action.{Action}
 use Rattle.hardware.specs.declared.Step.TheVariants as stepv
 use Rattle.hardware.specs.declared.Step.{Step}
+use Rattle.jobs.specs.declared.job.Ended.{Ended}
 use Rattle.started.specs.declared.operation.Op.{Op}
 use Rattle.packed.specs.Started.{words_place}
-use Rattle.packed.proofs.Width.Access.{access_length}
+use Rattle.packed.proofs.Width.Access.{access_place_length, hold_for_length}
 use Rattle.packed.proofs.Width.After.{after_length}
 use Rattle.packed.proofs.Width.Answers.{value_or_error_length}
 use Rattle.packed.proofs.Width.Hardware.{action_length}
@@ -16,4 +16,4 @@ use Rattle.packed.proofs.Width.Hardware.{action_length}
 pub place_length : (s : Step Action Op (Ended Value)) → length (words_place s) ≡ 58
 unfolding words_place
 place_length (stepv.Done x0) = simp (length-append, value_or_error_length)
-place_length (stepv.Ask x0 x1) = simp (length-append, action_length, access_length, after_length)
+place_length (stepv.Ask x0 x1) = simp (length-append, action_length, hold_for_length, access_place_length, after_length)

@@ -68,7 +68,7 @@ release_bits_length (release_bitsv.Clearing x0) = simp (length-append, clear_len
 release_bits_length (release_bitsv.Unlocking x0 x1) = simp (length-append, nothing_or_error_length, unlock_length)
 release_bits_length release_bitsv.Waiting = refl
 
-pub sync_length : (s : Sync) → length (words_sync s) ≡ 13
+pub sync_length : (s : Sync) → length (words_sync s) ≡ 10
 unfolding words_sync
-sync_length (syncv.Take x0 x1 x2) = simp acquire_bits_length
-sync_length (syncv.Give x0 x1) = simp (length-append, release_bits_length)
+sync_length (syncv.Take x0) = simp acquire_bits_length
+sync_length (syncv.Give x0) = simp release_bits_length

@@ -1,7 +1,7 @@
 use mathlib.Core.List.{[], ◌∷◌}
 use mathlib.Core.Path.{◌∙◌}
 use Rattle.reference.specs.Hostif.{activity_block}
-use Rattle.hostif.proofs.Laws.{stored}
+use Rattle.jobs.proofs.Laws.{stored}
 use Rattle.activity.proofs.Activity.put.Goals as goal
 
 pub returns : goal.returns

@@ -1,7 +1,7 @@
 use Rattle.hardware.specs.Talk.{return}
 use Rattle.reference.specs.Mdio.{changed}
 use Rattle.reference.specs.X552.{kr_write}
-use Rattle.access.proofs.Laws.{wrote}
+use Rattle.jobs.proofs.Laws.{wrote}
 use Rattle.kr.proofs.modify.KrModify.next.Goals as goal
 
 pub returns-in-Reading-Ok : goal.returns-in-Reading-Ok

@@ -1,6 +1,6 @@
 use mathlib.Core.List.{append_assoc}
-use Rattle.packed.proofs.Laws.{then, joined_back}
-use Rattle.packed.proofs.Width.Access.{drop_access}
+use Rattle.packed.proofs.Laws.{then, is_flag, joined_back}
+use Rattle.packed.proofs.Width.Access.{drop_access_place, drop_hold_for}
 use Rattle.packed.proofs.Width.Hardware.{drop_action}
 use Rattle.packed.specs.Started.{words_place, get_place}
 use Rattle.packed.specs.Tape.{word_at}
@@ -16,8 +16,8 @@ returns-in-Done-clause-back c = λ rest. simp (c.in-Done.is, joined_back, c.put-
 
 pub returns-in-Ask-clause-adds : goal.returns-in-Ask-clause-adds
 unfolding words_place
-returns-in-Ask-clause-adds c = rw c.in-Ask.is (then c.word-at-in-Ask.ensures (then c.put-at-in-Ask.ensures.adds (then c.put-at-in-Ask-2.ensures.adds c.put.ensures.adds)))
+returns-in-Ask-clause-adds c = rw c.in-Ask.is (then c.word-at-in-Ask.ensures (then c.word-at-in-Ask-2.ensures (then c.word-at-in-Ask-3.ensures (then c.word-at-in-Ask-4.ensures (then c.word-at-in-Ask-5.ensures (then c.flag-at.ensures (then c.put-at-in-Ask.ensures.adds (then c.put-at-in-Ask-2.ensures.adds (then c.put-at-in-Ask-3.ensures.adds c.put.ensures.adds)))))))))
 
 pub returns-in-Ask-clause-back : goal.returns-in-Ask-clause-back
 unfolding words_place get_place word_at
-returns-in-Ask-clause-back c = λ rest. simp (c.in-Ask.is, c.put-at-in-Ask.ensures.back, c.put-at-in-Ask-2.ensures.back, c.put.ensures.back, append_assoc, drop_action, drop_access)
+returns-in-Ask-clause-back c = λ rest. simp (c.in-Ask.is, is_flag, c.put-at-in-Ask.ensures.back, c.put-at-in-Ask-2.ensures.back, c.put-at-in-Ask-3.ensures.back, c.put.ensures.back, append_assoc, drop_action, drop_hold_for, drop_access_place)

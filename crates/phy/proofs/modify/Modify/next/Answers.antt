@@ -1,6 +1,6 @@
 use Rattle.hardware.specs.Talk.{return}
 use Rattle.reference.specs.Mdio.{write_reg, changed}
-use Rattle.access.proofs.Laws.{wrote}
+use Rattle.jobs.proofs.Laws.{wrote}
 use Rattle.phy.proofs.modify.Modify.next.Goals as goal
 
 pub returns-in-Reading-Ok : goal.returns-in-Reading-Ok

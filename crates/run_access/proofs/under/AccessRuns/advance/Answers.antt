@@ -1,13 +1,15 @@
-use Rattle.std.proofs.Common.{[]}
-use Rattle.hardware.specs.declared.Step.TheVariants as step
-use Rattle.hardware.specs.Talk.{end}
-use Rattle.access.specs.Access.{told_access}
-use Rattle.access.specs.declared.access.Access.{Access}
-use Rattle.drive.proofs.Laws.{inside}
-use Rattle.run_access.proofs.Moved.{moves_as}
+use Rattle.hardware.specs.Talk.{ask}
+use Rattle.access.specs.Access.{resume_place}
+use Rattle.access.specs.declared.place.AccessPlace.{AccessPlace}
+use Rattle.run_access.proofs.Moved.{moves_as, sync_moves, body_moves}
 use Rattle.run_access.proofs.under.AccessRuns.advance.Goals as goal
 
-pub returns-in-Under : goal.returns-in-Under
-returns-in-Under c = let g = c.args in
-    moves_as (λ (s : Access). told_access g.port g.block.now (step.Ask g.a s)) c.in-Under.is (c.under.ensures _)
-    (inside (λ r. end (r, [])) c.run-step.ensures)
+pub returns-in-Sync : goal.returns-in-Sync
+returns-in-Sync c = let g = c.args in let under = g.self.under in let at = c.in-Sync in
+    moves_as (λ (p : AccessPlace). ask g.a (resume_place under p g.block.now)) at.is c.synced.ensures
+    (sync_moves under at.why g.block.now at.m c.run-step.result c.call.ensures c.run-step.ensures)
+
+pub returns-in-Body : goal.returns-in-Body
+returns-in-Body c = let g = c.args in let under = g.self.under in let at = c.in-Body in
+    moves_as (λ (p : AccessPlace). ask g.a (resume_place under p g.block.now)) at.is c.bodied.ensures
+    (body_moves under.frame (c.run-step-in-Body.ensures g.block.now))

@@ -1,0 +1,8 @@
+use borrow.Author.Tests.{ne_eqb}
+use Rattle.std.proofs.Common.{sym, ◌∙◌}
+use Rattle.hardware.proofs.Laws.{times_more}
+use Rattle.access.proofs.place.Under.again.Goals as goal
+
+pub returns-else-hw-eq0 : goal.returns-else-hw-eq0
+returns-else-hw-eq0 c =
+    simp (times_more c.if-left-eq0.false, ne_eqb _ _ (λ e. c.if-hw-eq0.false (sym c.hw.ensures ∙ e))) (c.asked.ensures _ ∙ sym (c.take.ensures _))
