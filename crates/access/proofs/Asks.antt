@@ -13,7 +13,7 @@ use Rattle.reference.specs.Acquire.{forget}
 use Rattle.jobs.specs.Token.{token_words}
 use Rattle.access.specs.Frame.{command_by, token_by, acquire_times_by, acquire_ask_by, acquire_got_by, release_rest_by}
 use Rattle.access.proofs.Chosen.{token_cut}
-use Rattle.access.specs.Access.{opened, opening, closed, closing, bits_then, command_then, sync_call, sync_then, resume_place}
+use Rattle.access.specs.Access.{exchange_then, opened, opening, closed, closing, bits_then, command_then, sync_call, sync_then, resume_place}
 use Rattle.access.specs.declared.frame.Frame.{Frame}
 use Rattle.access.specs.declared.place.HoldFor.{HoldFor}
 use Rattle.access.specs.declared.place.HoldFor.TheVariants as hold
@@ -66,6 +66,14 @@ sync_ask u (why.Command c (command.Releasing result)) b a k = command_ask u c a 
 pub sync_end : (u : Under) (w : SyncFor) (b : List ℕ) (t : Call (Unit {0})) → sync_then u w b t ≡ and_then t (λ r. sync_then u w b (end r))
 sync_end u w b (end r) = refl
 sync_end u w b (ask a k) = sync_ask u w b a k ∙ ap (ask a) (fun_ext (λ r. sync_end u w b (k r)))
+
+-- and so does what follows an exchange
+pub exchange_ask : (u : Under) (c : CommandFor) (a : Action) (k : Reply → Talk (Res ℕ × List ℕ)) → exchange_then u c (ask a k) ≡ ask a (λ r. exchange_then u c (k r))
+exchange_ask u c a k = command_ask u c a _
+
+pub exchange_end : (u : Under) (c : CommandFor) (t : Talk (Res ℕ × List ℕ)) → exchange_then u c t ≡ and_then t (λ p. exchange_then u c (end p))
+exchange_end u c (end p) = refl
+exchange_end u c (ask a k) = exchange_ask u c a k ∙ ap (ask a) (fun_ext (λ r. exchange_end u c (k r)))
 
 -- where it begins: `start` is acquire_bits or release_bits
 pub sync_begun : (start : SyncCall → Call (Unit {0})) (u : Under) (w : SyncFor) (b : List ℕ) {call : SyncCall} {a : Action} (s : Sync)

@@ -1,6 +1,6 @@
 -- What goes on inside an access
 use Rattle.std.proofs.Common.{◌≡◌, sym, ap, subst, ◌∙◌}
-use Rattle.hardware.specs.Talk.{Talk, Call, Res, end, ask}
+use Rattle.hardware.specs.Talk.{Talk, Call, Res, Reply, end, ask}
 use Prim.Native.Nat.{ℕ}
 use mathlib.Core.List.{List, []}
 use Rattle.drive.specs.Moves.{Tape, Moves}
@@ -13,9 +13,10 @@ use Rattle.sync.specs.Sync.{resume_sync, told_sync}
 use Rattle.sync.specs.declared.sync.Sync.{Sync}
 use Rattle.sync.specs.declared.sync.SyncCall.{SyncCall}
 use Rattle.access.specs.Frame.{release_by}
-use Rattle.access.specs.Access.{sync_call, sync_then, body_then, resume_place}
-use Rattle.access.proofs.Asks.{sync_ask, sync_end}
+use Rattle.access.specs.Access.{sync_call, sync_then, body_then, exchange_then, resume_place}
+use Rattle.access.proofs.Asks.{sync_ask, sync_end, exchange_ask, exchange_end}
 use Rattle.access.specs.declared.frame.Frame.{Frame}
+use Rattle.access.specs.declared.place.CommandFor.{CommandFor}
 use Rattle.access.specs.declared.place.AccessPlace.TheVariants as place
 use Rattle.access.specs.declared.place.SyncFor.{SyncFor}
 use Rattle.access.specs.declared.place.Under.{Under}
@@ -37,3 +38,9 @@ sync_moves {rs} {v} {w} {a} under why b s next is q =
 -- the body that goes on
 pub body_moves : {rs : List ℕ} {v w : Tape} (f : Frame) {t u : Call ℕ} → Moves rs t v u w → Moves rs (body_then f t) v (body_then f u) w
 body_moves f q = inside (λ r. end (r, [])) (inside (held_done plain (release_by f)) q)
+
+-- the exchange that goes on
+pub exchange_moves : {rs : List ℕ} {v w : Tape} {a : Action} (under : Under) (whose : CommandFor) (k : Reply → Talk (Res ℕ × List ℕ)) {u : Talk (Res ℕ × List ℕ)}
+    → Moves rs (ask a k) v u w → Moves rs (ask a (λ r. exchange_then under whose (k r))) v (exchange_then under whose u) w
+exchange_moves {a = a} under whose k {u} q =
+    moved (λ p. exchange_then under whose (end p)) (sym (exchange_ask under whose a k) ∙ exchange_end under whose (ask a k)) (exchange_end under whose u) q

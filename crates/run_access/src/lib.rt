@@ -2,5 +2,6 @@
 #![tactic(auto)]
 
 pub mod body;
+pub mod exchange;
 pub mod lent;
 pub mod under;

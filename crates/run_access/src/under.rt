@@ -3,7 +3,7 @@ ghost use Rattle.std.specs.Prelude.{take};
 ghost use Rattle.access.specs.Access.{resume_access};
 
 use crate::body;
-use crate::lent::{Lent, Runs, single};
+use crate::lent::{Lent, Runs, run, single};
 use access::place::{Access, AccessPlace};
 use drive::{Host, machine};
 use hardware::{Action, Error, Reply, Step};
@@ -33,7 +33,7 @@ impl Lent for Access {
 }
 
 impl Runs for Access {
-    // acquire_bits, release_bits and the body as far as they go; of anything else, one action.
+    // acquire_bits, release_bits, the exchange and the body as far as they go; of anything else, one action.
     fn advance(
         self,
         a: Action,
@@ -48,6 +48,10 @@ impl Runs for Access {
             AccessPlace::Sync(why, m) => {
                 let step = machine::run(m, a, under.call(why), h, replies, t);
                 under.synced(block, why, step)
+            }
+            AccessPlace::Exchange(whose, m) => {
+                let step = run(m, a, whose, block, h, replies, t);
+                under.exchanged(whose, step)
             }
             AccessPlace::Body(m) => {
                 let step = body::run(m, a, h, replies, t);
