@@ -9,11 +9,11 @@
  *         s = mansruoy_step(s.to, 0, done_by_host(a));
  *     mansruoy_answered r = mansruoy_answer(s.to);
  *
- * Numbers of a call: 0 it went well; 20 lan above 1, 21 a fiber device, 22 a PHY or device address above 31, 23 a host block
- * above 16 words; 24 the conversation has ended; 25 a reply's kind above 1, or in a run an odd number of reply words; 26 no reply
- * left, 27 no room for three words (both stop a run, which goes on from what it gives back); 100 no such family, device or
- * operation, or arguments that are not the operation's; 101 words that are no conversation; 102 it has not ended. A call that is
- * turned away changes nothing.
+ * Numbers of a call: 0 it went well; 20 lan above 1, 21 a fiber device, 22 a PHY or device address above 31, 35 a KR address
+ * above 0xffff, 23 a host block above 16 words; 24 the conversation has ended; 25 a reply's kind above 1, or in a run an odd
+ * number of reply words; 26 no reply left, 27 no room for three words (both stop a run, which goes on from what it gives back);
+ * 100 no such family, device or operation, or arguments that are not the operation's; 101 words that are no conversation; 102 it
+ * has not ended. A call that is turned away changes nothing.
  *
  * No pointer may be null, also where its length is 0, and the two buffers of a run do not overlap.
  *

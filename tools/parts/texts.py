@@ -1,11 +1,14 @@
 """Arguments, damaged lines, and the format of the stored list."""
+import re
+
 LONGEST = 4000  # characters in the longest line that is made
 MANY = 440      # words in it
 
 MASKS = (0, 1, 2, 4, 6, 8, 0xf, 0x10, 0x400, 0x401, 0x800, 0x1000, 0x1800, 0x1806, 0x1c0f, 0x80000000, 0x40000000,
          0x40000002, 0x40000004, 0x40000010, 0x40001806, 0xffffffff, 0xbfffffff)
-ADDRESSES = (0x420c, 0x820c, 0x42a0, 0x5054, 0x4b00, 0, 0xbfff, 0xc000, 0xffff, 0x10000, 0x800c420c, 0xffffbfff,
-             0xffffc000, 0xfffffff0, 0xffffffff)
+ADDRESSES = (0x420c, 0x820c, 0x42a0, 0x5054, 0x4b00, 0, 0xbfff, 0xffff)
+# Both sides of the last address, and of the last one to which kr_modify adds 4000 on lan 1; then some far above.
+ADDRESS_EDGES = [0xffff], [0x10000], [0xbfff], [0xc000], [0x800c420c], [0xffffbfff], [0xffffc000], [0xfffffff0], [0xffffffff]
 PHY_EDGES = [0x1f], [0x20], [0xff], [0x100], [0x10000], [0xffffffff]
 TRUTH_EDGES = [0], [1], [2], [0xffffffff]
 # Each kind of argument: words that are read well, made from the rng r and the PHY in use; then words at
@@ -13,7 +16,7 @@ TRUTH_EDGES = [0], [1], [2], [0xffffffff]
 KINDS = {
     'word': (lambda r, phy: [r.choice((0, 1, 0xffffffff, 1 << 31, *[r.getrandbits(32)] * 4))], ()),
     'mask': (lambda r, phy: [r.choice((*MASKS, *[r.getrandbits(32) & 0x40001c0f] * 4, *[r.getrandbits(32)] * 4))], ()),
-    'address': (lambda r, phy: [r.choice((*ADDRESSES, *[r.getrandbits(32)] * 4, *[r.getrandbits(16)] * 4))], ()),
+    'address': (lambda r, phy: [r.choice((*ADDRESSES, *[r.getrandbits(16)] * 8))], ADDRESS_EDGES),
     'half': (lambda r, phy: [r.choice((0, 1, 2, 7, 0x2c, 0x7fff, 0x8000, 0xc800, 0xffff, *[r.getrandbits(16)] * 3))],
              ([0xffff], [0x10000], [0xffffffff])),
     'phy': (lambda r, phy: [phy], PHY_EDGES),
@@ -126,8 +129,20 @@ def can_be_stored(text):
     return text != b'' and not any(piece.startswith(b'case ') for piece in pieces(text))
 
 
+def with_end(text):
+    return text + b'\n' * (not text.endswith(b'\n'))
+
+
 def stored(operation, kind, text):
     """A case of the stored list: a `case` line, then an input or its listing. A last line that lacks its
     end gets it, which makes no other line of it."""
     line = 'case %s %s\n' % (operation, kind.replace(' ', '_'))
-    return line.encode() + text + b'\n' * (not text.endswith(b'\n'))
+    return line.encode() + with_end(text)
+
+
+def stored_cases(file):
+    """(operation, kind, input) of each case of a stored list."""
+    for piece in re.split(rb'(?m)^case ', file.read_bytes())[1:]:
+        line, _, text = piece.partition(b'\n')
+        operation, kind = line.decode().split()
+        yield operation, kind.replace('_', ' '), text

@@ -73,4 +73,5 @@ values_fit errorv.PhyReset = refl
 values_fit errorv.Lan = refl
 values_fit errorv.Fiber = refl
 values_fit errorv.Address = refl
+values_fit errorv.KrAddress = refl
 values_fit errorv.Block = refl

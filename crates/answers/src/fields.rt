@@ -230,6 +230,7 @@ impl Fields {
             | Error::Lan
             | Error::Fiber
             | Error::Address
+            | Error::KrAddress
             | Error::Block => self,
         }
     }
@@ -306,6 +307,7 @@ pub fn error_number(e: Error) -> u32
         Error::Lan => 20,
         Error::Fiber => 21,
         Error::Address => 22,
+        Error::KrAddress => 35,
         Error::Block => 23,
     }
 }

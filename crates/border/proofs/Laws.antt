@@ -7,7 +7,7 @@ use lib.Dec.{eqb}
 use lib.ListN.{length, length-append}
 use Rattle.hardware.specs.Numbers as error
 use Rattle.hardware.specs.declared.Error.{Error}
-use Rattle.hardware.specs.declared.Error.TheVariants.{Io, Removed, Timeout, Sideband, Semaphore, HostInterface, Firmware, NoPhy, PhyReset, Lan, Fiber, Address, Block}
+use Rattle.hardware.specs.declared.Error.TheVariants.{Io, Removed, Timeout, Sideband, Semaphore, HostInterface, Firmware, NoPhy, PhyReset, Lan, Fiber, Address, KrAddress, Block}
 use Rattle.hardware.specs.declared.Action.{Action}
 use Rattle.hardware.specs.declared.Step.{Step}
 use Rattle.jobs.specs.declared.job.Ended.{Ended}
@@ -41,4 +41,5 @@ error_number_lem PhyReset = refl
 error_number_lem Lan = refl
 error_number_lem Fiber = refl
 error_number_lem Address = refl
+error_number_lem KrAddress = refl
 error_number_lem Block = refl

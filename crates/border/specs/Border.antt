@@ -4,7 +4,7 @@ use Rattle.hardware.specs.Numbers as error
 use Rattle.hardware.specs.Numbers.{stop_number, misuse_number}
 use Rattle.hardware.specs.declared.Misuse.TheVariants.{Unknown, NotHeld, NotEnded}
 use Rattle.hardware.specs.declared.Stop.{Stop}
-use Rattle.hardware.specs.declared.Stop.TheVariants.{Done, AfterEnd, BadReply, NoReply, NoRoom}
+use Rattle.hardware.specs.declared.Stop.TheVariants.{AfterEnd, BadReply, NoReply, NoRoom}
 use Rattle.hardware.specs.Talk.{Talk, ask, end, Res, pick}
 use Rattle.hardware.specs.declared.Port.{Port}
 use Rattle.answers.specs.Fields.{value}
@@ -12,7 +12,7 @@ use Rattle.answers.specs.declared.Value.{Value}
 use Rattle.drive.specs.Act as act
 use Rattle.calls.specs.Conversation.{Conv, Step, begun, step_talk}
 use Rattle.conversation.specs.Conversation.{conv_of}
-use Rattle.operations.specs.Addresses.{refused}
+use Rattle.operations.specs.Request.{refused}
 use Rattle.reference.specs.Out.{Out}
 use Rattle.drive.specs.Moves.{Tape}
 use Rattle.calls.specs.Run.{Shown, tape_of, left, run_all}
@@ -37,7 +37,7 @@ outcome_of n h = pick (eqb n 0) (pick (is_held h) (went (conv_of (held_by h))) (
 abbrev pub nothing : Held
 nothing = record { words = replicate 65 0; block = replicate 16 0 }
 
--- 20 to 23, or the conversation begun
+-- the number of a call that is turned away, or the conversation begun
 abbrev pub opened : Res (Unit {0}) → Conv → Outcome
 opened (Err e) c = stayed (error.number e) nothing
 opened (Ok u) c = went c

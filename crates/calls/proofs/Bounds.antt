@@ -1,10 +1,10 @@
 -- How long each conversation that was begun is at the most
 use Rattle.hardware.specs.Talk.{Talk, Res}
-use Rattle.std.proofs.Common.{◌≡◌, ℕ, ◌^◌, ◌<◌, ◌≤◌, List, length, refl, arith, Err, Ok}
+use Rattle.std.proofs.Common.{◌≡◌, ℕ, ◌^◌, ◌<◌, ◌≤◌, List, refl, arith, Err, Ok}
 use Rattle.hardware.specs.Bound.{Within, at_end}
 use Rattle.hardware.specs.declared.Port.{Port}
 use Rattle.hardware.proofs.Refusal.{Taken, taken}
-use Rattle.operations.specs.Addresses.{addresses, refused}
+use Rattle.operations.specs.Request.{request, refused}
 use Rattle.operations.specs.Bounds.{actions, micros}
 use Rattle.operations.specs.Operations.{operation}
 use Rattle.operations.proofs.Bounds.{operation_within, operation_fits}
@@ -24,9 +24,9 @@ pub record Short (t : Talk Out) (x y : ℕ) : Type 0 where
 
 -- everything that `begin` makes has one
 pub short_begun : (port : Port) (what : Operation) (ws : List ℕ) → Short (begun port what ws).talk (actions what ws) (micros what ws)
-short_begun port what ws = go (refused port what ws) (taken port (addresses what).0 (addresses what).1 (length ws))
+short_begun port what ws = go (refused port what ws) (taken (request port what ws))
   where
-    go : (r : Res (Unit {0})) → (r ≡ Ok tt → Taken port (addresses what).0 (addresses what).1 (length ws))
+    go : (r : Res (Unit {0})) → (r ≡ Ok tt → Taken (request port what ws))
         → Short (started (operation port what ws) r) (actions what ws) (micros what ws)
     go (Err e) known =
         record {
@@ -39,7 +39,7 @@ short_begun port what ws = go (refused port what ws) (taken port (addresses what
           brief = omega arith;
         }
     go (Ok u) known =
-        let fits = operation_fits what ws (known refl).words in
+        let fits = operation_fits port what ws (known refl).words in
         record {
           n = actions what ws;
           m = micros what ws;

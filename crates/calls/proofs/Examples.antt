@@ -5,14 +5,16 @@ use mathlib.Core.List.{List, [], ◌∷◌}
 use Rattle.hardware.specs.Refusal.{refusal}
 use Rattle.hardware.specs.Talk.{end}
 use Rattle.hardware.specs.declared.Error.{Error}
-use Rattle.hardware.specs.declared.Error.TheVariants.{Lan, Fiber, Address, Block}
+use Rattle.hardware.specs.declared.Error.TheVariants.{Lan, Fiber, Address, KrAddress, Block}
 use Rattle.hardware.specs.declared.Family.{Family}
 use Rattle.hardware.specs.declared.Family.TheVariants.{X552, X553}
 use Rattle.hardware.specs.declared.Port.{Port}
-use Rattle.operations.specs.Addresses.{addresses}
-use Rattle.operations.specs.Example.{at552}
+use Rattle.operations.specs.Request.{request}
+use Rattle.arguments.specs.declared.Change.{Change}
+use Rattle.words.specs.Kr.{krm}
+use Rattle.operations.specs.Example.{at552, other552}
 use Rattle.operations.specs.Operations.{operation}
-use Rattle.operations.specs.declared.Operation.TheVariants.{Veto, Command, Probe, ReadReg}
+use Rattle.operations.specs.declared.Operation.TheVariants.{Veto, Command, Probe, ReadReg, KrRead, KrWrite, KrModify}
 use Rattle.calls.specs.Conversation.{Conv, begun, opening}
 
 -- a port of lan 0
@@ -25,32 +27,32 @@ refused p e = opening p (end (Err e, []))
 
 -- the document's case 6: PHY 31 is taken, and begins as the operation does
 phy_31 : begun at552 (Probe 31) [] ≡ opening at552 (operation at552 (Probe 31) [])
-unfolding refusal addresses
+unfolding refusal request
 phy_31 = refl
 
 -- PHY 32 is not
 phy_32 : begun at552 (Probe 32) [] ≡ refused at552 Address
-unfolding refusal addresses
+unfolding refusal request
 phy_32 = refl
 
 -- nor is MDIO device 32
 device_32 : begun at552 (ReadReg 31 32 0) [] ≡ refused at552 Address
-unfolding refusal addresses
+unfolding refusal request
 device_32 = refl
 
 -- fiber, by family
 fiber_552 : begun (port X552 0x15ac) Veto [] ≡ refused (port X552 0x15ac) Fiber
-unfolding refusal addresses
+unfolding refusal request
 fiber_552 = refl
 
 -- and on the X553
 fiber_553 : begun (port X553 0x15c4) Veto [] ≡ refused (port X553 0x15c4) Fiber
-unfolding refusal addresses
+unfolding refusal request
 fiber_553 = refl
 
 -- an id that is fiber on the X552 alone
 no_fiber_553 : begun (port X553 0x15ac) Veto [] ≡ opening (port X553 0x15ac) (operation (port X553 0x15ac) Veto [])
-unfolding refusal addresses
+unfolding refusal request
 no_fiber_553 = refl
 
 abbrev words : ℕ → List ℕ
@@ -59,13 +61,62 @@ words (suc n) = 0 ∷ words n
 
 -- a host block of 16 words
 block_16 : begun at552 Command (words 16) ≡ opening at552 (operation at552 Command (words 16))
-unfolding refusal addresses
+unfolding refusal request
 block_16 = refl
 
 -- and of 17
 block_17 : begun at552 Command (words 17) ≡ refused at552 Block
-unfolding refusal addresses
+unfolding refusal request
 block_17 = refl
+
+-- no other operation has a use for lent words, however many
+veto_17 : begun at552 Veto (words 17) ≡ opening at552 (operation at552 Veto [])
+unfolding refusal request
+veto_17 = refl
+
+-- a KR address of 0xffff is taken on either lan, since kr_read and kr_write add nothing to it
+read_ffff : begun other552 (KrRead 0xffff) [] ≡ opening other552 (operation other552 (KrRead 0xffff) [])
+unfolding refusal request
+read_ffff = refl
+
+-- and one above is not
+read_10000 : begun other552 (KrRead 0x10000) [] ≡ refused other552 KrAddress
+unfolding refusal request
+read_10000 = refl
+
+write_ffff : begun at552 (KrWrite 0xffff 7) [] ≡ opening at552 (operation at552 (KrWrite 0xffff 7) [])
+unfolding refusal request
+write_ffff = refl
+
+write_10000 : begun at552 (KrWrite 0x10000 7) [] ≡ refused at552 KrAddress
+unfolding refusal request
+write_10000 = refl
+
+abbrev change : ℕ → Change
+change port0 = record { port0 = port0; keep = 0; set = 7 }
+
+-- kr_modify on lan 0
+modify_ffff : begun at552 (KrModify (change 0xffff)) [] ≡ opening at552 (operation at552 (KrModify (change 0xffff)) [])
+unfolding refusal request krm
+modify_ffff = refl
+
+modify_10000 : begun at552 (KrModify (change 0x10000)) [] ≡ refused at552 KrAddress
+unfolding refusal request krm
+modify_10000 = refl
+
+-- on lan 1 it adds 0x4000: 0xbfff comes to 0xffff, and 0xc000 past it
+modify_bfff : begun other552 (KrModify (change 0xbfff)) [] ≡ opening other552 (operation other552 (KrModify (change 0xbfff)) [])
+unfolding refusal request krm
+modify_bfff = refl
+
+modify_c000 : begun other552 (KrModify (change 0xc000)) [] ≡ refused other552 KrAddress
+unfolding refusal request krm
+modify_c000 = refl
+
+-- where the sum wraps, the address as it is named is too large
+modify_wraps : begun other552 (KrModify (change 0xfffffff0)) [] ≡ refused other552 KrAddress
+unfolding refusal request krm
+modify_wraps = refl
 
 -- no lan of the chip, and fiber
 abbrev wrong : Port
@@ -73,10 +124,15 @@ wrong = record { family = X552; device = 0x15ac; lan = 2 }
 
 -- the lan is looked at first
 lan_2 : begun wrong (Probe 32) [] ≡ refused wrong Lan
-unfolding refusal addresses
+unfolding refusal request
 lan_2 = refl
+
+-- with a KR address too
+lan_before_kr : begun wrong (KrRead 0x10000) [] ≡ refused wrong Lan
+unfolding refusal request
+lan_before_kr = refl
 
 -- then the fiber, then the PHY
 fiber_first : begun (port X552 0x15ac) (Probe 32) [] ≡ refused (port X552 0x15ac) Fiber
-unfolding refusal addresses
+unfolding refusal request
 fiber_first = refl

@@ -12,7 +12,7 @@ use Rattle.reference.specs.Out.{Out}
 use Rattle.operations.specs.Operations.{operation}
 use Rattle.arguments.specs.declared.Left.{Left}
 use Rattle.arguments.specs.declared.Watch.{Watch}
-use Rattle.operations.specs.Addresses.{refused}
+use Rattle.operations.specs.Request.{refused}
 use Rattle.operations.specs.declared.Operation.{Operation}
 use Rattle.hardware.specs.declared.Stop.{Stop}
 use Rattle.hardware.specs.declared.Stop.TheVariants as stop
@@ -35,7 +35,7 @@ abbrev pub started : Talk Out → Res (Unit {0}) → Talk Out
 started t (Err e) = end (Err e, [])
 started t (Ok u) = t
 
--- `begin`: 20 to 23, or the reference's operation
+-- `begin`: the number of a call that is turned away, or the reference's operation
 abbrev pub begun : Port → Operation → List ℕ → Conv
 begun port what ws = opening port (started (operation port what ws) (refused port what ws))
 

@@ -1,13 +1,17 @@
 -- What the code's functions need of the definitions
 use Rattle.hardware.specs.Talk.{Talk}
-use Rattle.std.proofs.Common.{◌≡◌, ℕ, ◌+◌, ◌-◌, ◌≤◌, List, ◌++◌, length, take, drop, replicate, refl, ap, ◌∙◌, append-nil, arith, length-drop, drop_of_length-le, length-take-le, take_all, take_at, Ok}
+use Rattle.std.proofs.Common.{◌≡◌, ℕ, ◌+◌, ◌-◌, ◌≤◌, List, ◌++◌, length, take, drop, replicate, refl, sym, ap, subst, ◌∙◌, append-nil, arith, length-drop, drop_of_length-le, length-take-le, take_all, take_at, Ok}
 use Rattle.hardware.specs.declared.Action.{Action}
+use Rattle.hardware.specs.Refusal.{refusal}
+use Rattle.hardware.proofs.Refusal.{taken}
 use Rattle.hardware.specs.declared.Port.{Port}
+use Rattle.hardware.specs.declared.Request.{Request}
 use Rattle.hardware.specs.declared.Step.{Step}
 use Rattle.jobs.specs.declared.job.Ended.{Ended}
 use Rattle.answers.specs.declared.Value.{Value}
 use Rattle.reference.specs.Out.{Out}
-use Rattle.operations.specs.Addresses.{refused}
+use Rattle.operations.specs.Request.{request, refused}
+use Rattle.operations.proofs.Words.{words_lent, only_words}
 use Rattle.operations.specs.Operations.{operation}
 use Rattle.operations.specs.declared.Operation.{Operation}
 use Rattle.started.specs.Operation.{told}
@@ -24,14 +28,25 @@ use Rattle.conversation.specs.declared.run.Ran.{Ran}
 pub take_padded : (ws : List ℕ) → take (length ws) (padded ws) ≡ ws
 take_padded ws = take_at ws (drop (length ws) (replicate 16 0)) (length ws) refl
 
--- a call that is not turned away begins with the operation, on the words that were copied
-pub not_refused : (port : Port) (what : Operation) (ws block : List ℕ) {t : Talk Out} → refused port what ws ≡ Ok tt
-    → block ≡ padded ws → t ≡ operation port what (take (length ws) block)
-    → opening port t ≡ begun port what ws
-not_refused port what ws block r b e =
-    let words : take (length ws) block ≡ ws = ap (take (length ws)) b ∙ take_padded ws in
-    let says = e ∙ ap (operation port what) words in
-    ap (opening port) says ∙ rw r
+-- the words that a request counts are lent, and in one that is not turned away they are few
+module _ (port : Port) (what : Operation) (ws : List ℕ) {r : Request} (asks : request port what ws ≡ r) where
+  pub counted : length (take r.words ws) ≡ r.words
+  counted = length-take-le r.words ws (subst (λ (x : Request). x.words ≤ length ws) asks (words_lent port what ws))
+
+  pub few : refusal r ≡ Ok tt → length (take r.words ws) ≤ 16
+  few t = subst (λ n. n ≤ 16) (sym counted) (taken r t).words
+
+  -- it begins with the operation, on those words
+  pub not_refused : (block : List ℕ) {t : Talk Out} → refusal r ≡ Ok tt → block ≡ padded (take r.words ws)
+      → t ≡ operation port what (take r.words block)
+      → opening port t ≡ begun port what ws
+  not_refused block t b e =
+      let words : take r.words block ≡ take r.words ws =
+      ap (take r.words) b ∙ subst (λ n. take n (padded (take r.words ws)) ≡ take r.words ws) counted (take_padded (take r.words ws)) in
+      let used : operation port what (take r.words ws) ≡ operation port what ws =
+      subst (λ (x : Request). operation port what (take x.words ws) ≡ operation port what ws) asks (only_words 10 port what ws) in
+      let verdict : refused port what ws ≡ Ok tt = subst (λ x. refusal x ≡ Ok tt) (sym asks) t in
+      ap (opening port) (e ∙ ap (operation port what) words ∙ used) ∙ rw verdict
 
 -- what a conversation says where it stands at a place that is known
 pub at_place : (c : code.Conversation) {p : Step Action Op (Ended Value)} → c.place ≡ p → (conv_of c).talk ≡ told c.port p c.block

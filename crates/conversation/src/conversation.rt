@@ -141,16 +141,17 @@ impl Conversation {
         }
     }
 
-    // Begins an operation, with the words of its host block, of which only `command` makes use.
-    #[tactic(auto, using(hardware::proofs::Refusal::taken, crate::proofs::Laws::not_refused))]
+    // Begins an operation, with the words that are lent: a command's host block. No other operation has a use for any.
+    #[tactic(auto, using(crate::proofs::Laws::not_refused))]
     pub fn begin(port: Port, what: Operation, block: &[u32]) -> Conversation
         ensures { conv_of result ≡ begun port what block.now }
     {
-        match what.refused(port, block) {
+        let request = what.request(port, block);
+        match request.refusal() {
             Err(e) => Conversation::refused(port, e),
             Ok(()) => {
-                let mut words = copied(block);
-                let first = start(what, port, &mut words, block.len());
+                let mut words = copied(&block[..request.words]);
+                let first = start(what, port, &mut words, request.words);
                 let place = placed(port, &mut words, first);
                 Conversation {
                     port,

@@ -2,44 +2,53 @@
 use Rattle.std.specs.Prelude.{Ok, Err}
 use Prim.Native.Nat.{ℕ, ◌≤◌}
 use mathlib.Core.Path.{◌≡◌, refl}
-use mathlib.Core.Bool.{Bool, true, false, ◌||◌}
+use mathlib.Core.Bool.{Bool, true, false, ◌||◌, true≢false}
 use native.Mathlib.Omega.{arith}
 use borrow.Author.Tests.{ltb-false}
 use lib.Dec.{ltb}
 use Rattle.hardware.specs.Talk.{Res, pick}
 use Rattle.hardware.specs.Refusal.{is_fiber, refusal}
-use Rattle.hardware.specs.declared.Port.{Port}
+use Rattle.hardware.specs.declared.Request.{Request}
 use Rattle.hardware.specs.declared.Error.{Error}
-use Rattle.hardware.specs.declared.Error.TheVariants.{Lan, Fiber, Address, Block}
+use Rattle.hardware.specs.declared.Error.TheVariants.{Lan, Fiber, Address, KrAddress, Block}
 
-pub record Taken (port : Port) (p d n : ℕ) : Type 0 where
-  pub lan : port.lan ≤ 1
-  pub fiber : is_fiber port ≡ false
-  pub phy : p ≤ 31
-  pub device : d ≤ 31
-  pub words : n ≤ 16
+pub record Taken (r : Request) : Type 0 where
+  pub lan : r.port.lan ≤ 1
+  pub fiber : is_fiber r.port ≡ false
+  pub phy : r.phy ≤ 31
+  pub device : r.device ≤ 31
+  pub kr : r.kr ≤ 0xffff
+  pub selected : r.selected ≤ 0xffff
+  pub words : r.words ≤ 16
 
 not_both : {A : Type 0} {e : Error} {u : Unit {0}} → ◌≡◌ {A = Res (Unit {0})} (Err e) (Ok u) → A
 not_both h = let z : ◌≡◌ {A = ℕ} 0 1 = cc in absurd (omega arith)
 
-all_false : (a b c d e : Bool)
-    → ◌≡◌ {A = Res (Unit {0})} (pick a (Err Lan) (pick b (Err Fiber) (pick (c || d) (Err Address) (pick e (Err Block) (Ok tt))))) (Ok tt)
-    → (a ≡ false) × (b ≡ false) × (c ≡ false) × (d ≡ false) × (e ≡ false)
-all_false true b c d e h = not_both h
-all_false false true c d e h = not_both h
-all_false false false true d e h = not_both h
-all_false false false false true e h = not_both h
-all_false false false false false true h = not_both h
-all_false false false false false false h = (refl, refl, refl, refl, refl)
+-- one test that is passed, and the rest
+passed : (b : Bool) (e : Error) {rest : Res (Unit {0})} → pick b (Err e) rest ≡ Ok tt → (b ≡ false) × (rest ≡ Ok tt)
+passed true e h = not_both h
+passed false e h = (refl, h)
 
-pub taken : (port : Port) (phy device words : ℕ) → refusal port phy device words ≡ Ok tt → Taken port phy device words
+neither : (a b : Bool) → (a || b) ≡ false → (a ≡ false) × (b ≡ false)
+neither true b h = absurd (true≢false h)
+neither false b h = (refl, h)
+
+pub taken : (r : Request) → refusal r ≡ Ok tt → Taken r
 unfolding refusal
-taken port phy device words h =
-    let t = all_false (ltb 1 port.lan) (is_fiber port) (ltb 31 phy) (ltb 31 device) (ltb 16 words) h in
+taken r h =
+    let lan = passed (ltb 1 r.port.lan) Lan h in
+    let fiber = passed (is_fiber r.port) Fiber lan.1 in
+    let mdio = passed (ltb 31 r.phy || ltb 31 r.device) Address fiber.1 in
+    let kr = passed (ltb 0xffff r.kr || ltb 0xffff r.selected) KrAddress mdio.1 in
+    let block = passed (ltb 16 r.words) Block kr.1 in
+    let addresses = neither (ltb 31 r.phy) (ltb 31 r.device) mdio.0 in
+    let registers = neither (ltb 0xffff r.kr) (ltb 0xffff r.selected) kr.0 in
     record {
-      lan = ltb-false _ _ t.0;
-      fiber = t.1;
-      phy = ltb-false _ _ t.2;
-      device = ltb-false _ _ t.3;
-      words = ltb-false _ _ t.4;
+      lan = ltb-false _ _ lan.0;
+      fiber = fiber.0;
+      phy = ltb-false _ _ addresses.0;
+      device = ltb-false _ _ addresses.1;
+      kr = ltb-false _ _ registers.0;
+      selected = ltb-false _ _ registers.1;
+      words = ltb-false _ _ block.0;
     }

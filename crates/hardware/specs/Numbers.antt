@@ -1,4 +1,5 @@
--- All numbers of the part, and the values that go with each: document 01's table in its order, then the calls from C
+-- All numbers of the part, and the values that go with each: document 01's table in its order, 35 of document 02 where it is
+-- tested, then the calls from C
 use Rattle.std.specs.Prelude.{ℕ, List, [], ◌∷◌}
 use Rattle.hardware.specs.declared.Error.{Error}
 use Rattle.hardware.specs.declared.Misuse.{Misuse}
@@ -18,6 +19,7 @@ use Rattle.hardware.specs.declared.Error.TheVariants.{
   Lan,
   Fiber,
   Address,
+  KrAddress,
   Block,
 }
 
@@ -34,6 +36,7 @@ number PhyReset = 9
 number Lan = 20
 number Fiber = 21
 number Address = 22
+number KrAddress = 35
 number Block = 23
 
 abbrev pub values : Error → List ℕ
@@ -49,6 +52,7 @@ values PhyReset = []
 values Lan = []
 values Fiber = []
 values Address = []
+values KrAddress = []
 values Block = []
 
 -- how a step or a run stopped. Its values are the conversation, and of 26 and 27 the counts and places to go on from

@@ -1,10 +1,11 @@
--- What `begin` turns away: 20, 21, 22, 23 of document 01, in this order
+-- What `begin` turns away: 20, 21, 22, 35, 23, in this order
 use Rattle.std.specs.Prelude.{ℕ, Bool, ◌||◌, eqb, ltb, Ok, Err}
 use Rattle.hardware.specs.Talk.{Res, pick}
 use Rattle.hardware.specs.declared.Family.{Family}
 use Rattle.hardware.specs.declared.Family.TheVariants.{X552, X553}
 use Rattle.hardware.specs.declared.Port.{Port}
-use Rattle.hardware.specs.declared.Error.TheVariants.{Lan, Fiber, Address, Block}
+use Rattle.hardware.specs.declared.Request.{Request}
+use Rattle.hardware.specs.declared.Error.TheVariants.{Lan, Fiber, Address, KrAddress, Block}
 
 abbrev pub fiber_at : Family → ℕ → Bool
 fiber_at X552 device = eqb device 0x15ac
@@ -14,11 +15,11 @@ fiber_at X553 device = eqb device 0x15c4 || eqb device 0x15ce
 abbrev pub is_fiber : Port → Bool
 is_fiber port = fiber_at port.family port.device
 
--- of an operation with this PHY and MDIO device address (0 where it has none) and a host block of so many words
-unfoldable pub refusal : Port → ℕ → ℕ → ℕ → Res (Unit {0})
-refusal port phy device words =
-    pick (ltb 1 port.lan) (Err Lan)
-    (pick (is_fiber port) (Err Fiber)
-    (pick (ltb 31 phy || ltb 31 device) (Err Address)
-    (pick (ltb 16 words) (Err Block)
-    (Ok tt))))
+unfoldable pub refusal : Request → Res (Unit {0})
+refusal r =
+    pick (ltb 1 r.port.lan) (Err Lan)
+    (pick (is_fiber r.port) (Err Fiber)
+    (pick (ltb 31 r.phy || ltb 31 r.device) (Err Address)
+    (pick (ltb 0xffff r.kr || ltb 0xffff r.selected) (Err KrAddress)
+    (pick (ltb 16 r.words) (Err Block)
+    (Ok tt)))))

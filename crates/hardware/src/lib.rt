@@ -31,6 +31,20 @@ pub struct Managed {
     pub veto: bool,
 }
 
+// What a call of `begin` asks for, as far as it may be turned away for it; 0 where the operation has no such thing.
+#[derive(Clone, Copy)]
+pub struct Request {
+    pub port: Port,
+    // the addresses of a PHY and of an MDIO device
+    pub phy: u32,
+    pub device: u32,
+    // a KR register's address as it is named, and as CTRL is to be given it
+    pub kr: u32,
+    pub selected: u32,
+    // the number of words in a command's host block
+    pub words: usize,
+}
+
 // What the host is asked for: read a register, write a value to one, or wait some microseconds.
 #[derive(Clone, Copy)]
 pub enum Action {
@@ -46,8 +60,8 @@ pub struct Failure(pub u32);
 // What the host hands back: the value read, or that it failed.
 pub type Reply = Result<u32, Failure>;
 
-// Every cause that ends a conversation with an error: 1 to 9 of document 01's table, which the Rust has, and 20 to 23,
-// which `begin` adds. specs/Numbers.antt gives each one its number and values.
+// Every cause that ends a conversation with an error: 1 to 9 of document 01's table, which the Rust has, and those with which
+// `begin` turns a call away. specs/Numbers.antt gives each one its number and values.
 #[derive(Clone, Copy)]
 pub enum Error {
     Io(u32),
@@ -77,6 +91,7 @@ pub enum Error {
     Lan,
     Fiber,
     Address,
+    KrAddress,
     Block,
 }
 
@@ -201,23 +216,30 @@ impl Port {
             Family::X553 => self.device == 0x15c4 || self.device == 0x15ce,
         }
     }
+}
 
-    // What `begin` turns away, in document 01's order: the port, then the operation's PHY and MDIO device address (0 where
-    // it has none), then the number of words in the host block.
+impl Request {
+    // The largest address of a KR register.
+    const KR_LAST: u32 = 0xffff;
+
+    // What `begin` turns away, looked at in this order: the port, the addresses, a command's words.
     #[tactic(auto, unfolding(crate::specs::Refusal::refusal))]
-    pub fn refusal(self, phy: u32, device: u32, words: usize) -> Result<(), Error>
-        ensures { refusal self phy device words ≡ result }
+    pub fn refusal(self) -> Result<(), Error>
+        ensures { refusal self ≡ result }
     {
-        if self.lan > 1 {
+        if self.port.lan > 1 {
             return Err(Error::Lan);
         }
-        if self.is_fiber() {
+        if self.port.is_fiber() {
             return Err(Error::Fiber);
         }
-        if phy > 31 || device > 31 {
+        if self.phy > 31 || self.device > 31 {
             return Err(Error::Address);
         }
-        if words > 16 {
+        if self.kr > Request::KR_LAST || self.selected > Request::KR_LAST {
+            return Err(Error::KrAddress);
+        }
+        if self.words > 16 {
             return Err(Error::Block);
         }
         Ok(())

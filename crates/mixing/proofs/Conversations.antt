@@ -10,7 +10,7 @@ use Rattle.hardware.specs.declared.Action.TheVariants as action
 use Rattle.hardware.specs.declared.Family.{Family}
 use Rattle.hardware.specs.declared.Port.{Port}
 use Rattle.reference.specs.Out.{Out}
-use Rattle.operations.specs.Addresses.{refused}
+use Rattle.operations.specs.Request.{refused}
 use Rattle.operations.specs.Operations.{operation}
 use Rattle.calls.specs.Conversation.{Conv, opening, started, step_on, step_talk}
 use Rattle.mixing.specs.Conversations.{

@@ -15,7 +15,7 @@ use Rattle.words.specs.Semaphore.{software, firmware, flash, bits}
 use Rattle.answers.specs.declared.Value.{Value}
 use Rattle.answers.specs.declared.Value.TheVariants as valuev
 use Rattle.reference.specs.Acquire.{acquire, release, release_rest}
-use Rattle.operations.specs.Addresses.{addresses}
+use Rattle.operations.specs.Request.{request}
 use Rattle.operations.specs.declared.Operation.{Operation}
 use Rattle.operations.specs.declared.Operation.TheVariants.{Acquire, Command, KrRead, KrWrite, ReadReg}
 use Rattle.reference.specs.Sync.{mux, acquire_bits, release_bits}
@@ -98,7 +98,7 @@ module _ (regs : ℕ → ℕ) where
   -- the firmware takes bit 31, raises bit 6 and lets go: kr_read tries 1000 times, and says what is in its way
   blocked : says (at_work X552 regs (firm take ∷ firm (raise 6) ∷ firm let_go ∷ begin lan0 (asks 0x15ad (KrRead 5)) ∷ turns 9000 lan0)) lan0
       ≡ end (Err (Semaphore 0x40), [])
-  unfolding run_real refusal addresses bit times kr_read acquire acquire_bits release release_rest release_bits iosf_idle mux bits software firmware flash
+  unfolding run_real refusal request bit times kr_read acquire acquire_bits release release_rest release_bits iosf_idle mux bits software firmware flash
   blocked = refl
 
   -- two ports write to one address
@@ -110,7 +110,7 @@ module _ (regs : ℕ → ℕ) where
 
   two_writes : (written.touches ≡ wrote 5 34 ∷ wrote 5 17 ∷ []) × (written.chip.kr 5 ≡ 34)
       × (says written lan0 ≡ end (Ok valuev.Nothing, [])) × (says written lan1 ≡ end (Ok valuev.Nothing, []))
-  unfolding run_real refusal addresses bit times kr_write acquire acquire_bits release release_rest release_bits iosf_idle mux bits software firmware flash
+  unfolding run_real refusal request bit times kr_write acquire acquire_bits release release_rest release_bits iosf_idle mux bits software firmware flash
   two_writes = (refl, refl, refl, refl)
 
   -- the X553, whose kr_read takes no token either
@@ -118,7 +118,7 @@ module _ (regs : ℕ → ℕ) where
   second = at_work X553 regs (begin lan1 (asks 0x15c2 (KrRead 5)) ∷ turns 23 lan1)
 
   x553 : (says second lan1 ≡ end (Ok (valuev.Word (regs 5)), [])) × (second.touches ≡ got 5 (regs 5) ∷ [])
-  unfolding run_real refusal addresses bit times kr_read acquire acquire_bits release release_rest release_bits iosf_idle mux bits software firmware flash
+  unfolding run_real refusal request bit times kr_read acquire acquire_bits release release_rest release_bits iosf_idle mux bits software firmware flash
   x553 = (refl, refl)
 
   -- asked once more, with a kind that no reply has: 24, and it says what it said
@@ -127,7 +127,7 @@ module _ (regs : ℕ → ℕ) where
 
   late : ((step_talk (second.ports lan1).conv 7 9).stop ≡ AfterEnd)
       × (says (step_real X553 (act lan1 once_more) second) lan1 ≡ end (Ok (valuev.Word (regs 5)), []))
-  unfolding run_real refusal addresses bit times kr_read acquire acquire_bits release release_rest release_bits iosf_idle mux bits software firmware flash
+  unfolding run_real refusal request bit times kr_read acquire acquire_bits release release_rest release_bits iosf_idle mux bits software firmware flash
   late = (refl, refl)
 
   -- the firmware takes bit 31 before the release, and keeps it: the release fails, and bits 1 and 2 are still the port's
@@ -136,20 +136,21 @@ module _ (regs : ℕ → ℕ) where
 
   release_fails : (says kept lan0 ≡ end (Err (Semaphore 0x80000000), [])) × ((kept.ports lan0).well ≡ false)
       × (kept.chip.sync.owner 1 ≡ of_port lan0) × (kept.chip.sync.owner 2 ≡ of_port lan0) × (kept.chip.sync.owner 31 ≡ model.firmware)
-  unfolding run_real refusal addresses bit times kr_read acquire acquire_bits release release_rest release_bits iosf_idle mux bits software firmware flash
+  unfolding run_real refusal request bit times kr_read acquire acquire_bits release release_rest release_bits iosf_idle mux bits software firmware flash
   release_fails = (refl, refl, refl, refl, refl)
 
--- what is begun, and what is refused: a fiber port, a PHY address above 31, a host block of 17 words, a bare acquire
+-- what is begun, and what is refused: a fiber port, a KR address above 0xffff, a PHY address above 31, a host block of 17 words, a bare acquire
 abbrev asked : ℕ → Operation → List ℕ → Bool
 asked device what ws = takes (port_at X552 lan0 device) what ws
 
 begun_or_not :
-    (asked 0x15ad (KrRead 0x12345678) [] ≡ true)
+    (asked 0x15ad (KrRead 0xffff) [] ≡ true)
+    × (asked 0x15ad (KrRead 0x10000) [] ≡ false)
     × (asked 0x15ac (KrRead 5) [] ≡ false)
     × (asked 0x15ad (ReadReg 31 31 0) [] ≡ true)
     × (asked 0x15ad (ReadReg 32 0 0) [] ≡ false)
     × (asked 0x15ad Command (replicate 16 0) ≡ true)
     × (asked 0x15ad Command (replicate 17 0) ≡ false)
     × (asked 0x15ad (Acquire 6) [] ≡ false)
-unfolding refusal addresses
-begun_or_not = (refl, refl, refl, refl, refl, refl, refl)
+unfolding refusal request
+begun_or_not = (refl, refl, refl, refl, refl, refl, refl, refl)

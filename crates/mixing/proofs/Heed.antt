@@ -5,9 +5,10 @@ use mathlib.Core.Path.{◌≡◌, refl, sym, ap, ◌∙◌}
 use mathlib.Core.Bool.{Bool, false, true≢false}
 use Rattle.hardware.specs.declared.Family.{Family}
 use Rattle.hardware.proofs.Laws.{then_end, then_assoc}
+use Rattle.mixing.specs.Model.{On}
+use Rattle.mixing.specs.Only.{Only, only_end, only_ask}
 use Rattle.mixing.specs.Heeded.{LockCall, lock_talk, NotLock, Fails, fails_end, fails_ask, Heeds, heeds_end, heeds_ask, heeds_call}
 use Rattle.mixing.specs.Events.{is_ok}
-use Rattle.mixing.proofs.Only.{Only, only_end, only_ask}
 
 -- whatever comes first
 pub fails_after : {A B : Type 0} {well : B → Bool} (t : Talk A) {k : A → Talk B} → ((a : A) → Fails well (k a)) → Fails well (and_then t k)
@@ -42,6 +43,6 @@ heeds_bind {f = f} {k = k} p h = heeds_then p stop (stop_fails k)
 pub heeds_lock : {f : Family} (x : LockCall) → Heeds f is_ok (lock_talk x)
 heeds_lock x = heeds_call x end (sym (then_end (lock_talk x))) heeds_end (λ e. fails_end refl)
 
-pub heeds_only : {A : Type 0} {f : Family} {well : A → Bool} {t : Talk A} → Only NotLock f t → Heeds f well t
+pub heeds_only : {A : Type 0} {f : Family} {well : A → Bool} {t : Talk A} → Only (On NotLock f) t → Heeds f well t
 heeds_only only_end = heeds_end
 heeds_only (only_ask o p) = heeds_ask o (λ r. heeds_only (p r))

@@ -36,22 +36,10 @@ use Rattle.reference.specs.Hostif.{
   activity_words,
   phy_activity,
 }
+use Rattle.mixing.specs.Only.{only_end}
 use Rattle.mixing.specs.Model.{kind}
 use Rattle.mixing.specs.Events.{is_ok}
-use Rattle.mixing.proofs.Only.{
-  by_turns,
-  IsFar,
-  far,
-  Quiet,
-  only_end,
-  only_then,
-  only_bind,
-  only_pick,
-  only_read,
-  only_raw,
-  only_write,
-  only_wait,
-}
+use Rattle.mixing.proofs.Only.{by_turns, IsFar, far, Quiet, only_then, only_bind, only_pick, only_read, only_raw, only_write, only_wait}
 use Rattle.mixing.proofs.Sound.{Sound, well_block, quietly, ends, picks, waits, bind_lent, under, honest_block, bits_bracket}
 
 -- the host block's registers
@@ -75,7 +63,7 @@ module _ (f : Family) where
   q_started hicr =
       only_bind (only_write (far 0x15f00 tt tt f))
       (λ _. by_turns (λ g. (last : ℕ) → Quiet f (g last)) hicr_turn posted
-      (λ again g last. only_bind (only_read (far 0x15f00 tt tt f)) (λ v. only_pick (is_clear v 2) (q_posted v) (only_bind only_wait (λ _. g v))))
+      (λ again g last. only_bind (only_read (far 0x15f00 tt tt f)) (λ v. only_pick (is_clear v 2) (q_posted v) (only_bind (only_wait tt) (λ _. g v))))
       q_posted 50000 _)
 
   q_words : (block : List ℕ) (hicr n i : ℕ) → n + i ≤ 16 → Quiet f (times n (write_turn block) (λ _. started hicr) i)

@@ -1,7 +1,7 @@
 -- kr_read and kr_write keep the rules
 use Rattle.std.specs.Prelude.{Err, Ok}
 use Rattle.hardware.specs.Talk.{Talk, Call, Res, end, ask, is_clear, fail, Reply}
-use Prim.Native.Nat.{ℕ}
+use Prim.Native.Nat.{ℕ, ◌≤◌}
 use native.Mathlib.Omega.{arith}
 use mathlib.Core.Path.{◌≡◌, refl, sym, subst, ◌∙◌}
 use mathlib.Core.Bool.{Bool, true, or-true}
@@ -17,15 +17,18 @@ use Rattle.reference.specs.Acquire.{locked}
 use Rattle.reference.specs.Sync.{plain, locked_bits}
 use Rattle.reference.specs.X552.{iosf_turn, iosf_idle, kr_read_body, kr_write_body, kr_read, kr_write}
 use Rattle.reference.proofs.Locked.{locked_bits_lem}
+use Rattle.mixing.specs.Addressed.{Addressed}
+use Rattle.mixing.specs.Only.{Only, only_end}
 use Rattle.mixing.specs.Heeded.{NotLock, Heeds}
-use Rattle.mixing.specs.Model.{is_ctrl, is_data, kind}
+use Rattle.mixing.specs.Model.{is_ctrl, is_data, kind, On}
 use Rattle.mixing.specs.Events.{is_ok}
 use Rattle.mixing.specs.System.{Caller, reads, writes, access, done}
+use Rattle.mixing.proofs.Addressed.{read_addressed, write_addressed}
 use Rattle.mixing.proofs.Heed.{heeds_only}
 use Rattle.mixing.proofs.Hold.{Now, least, plus}
 use Rattle.mixing.proofs.Lock.{or_stop_lem, on_success}
-use Rattle.mixing.proofs.Only.{by_turns, Only, only_end, only_bind, only_pick, only_raw, only_write, only_wait}
-use Rattle.mixing.proofs.Sound.{Sound, Ends, bits_bracket, honest_plain, under_heeds, under_wp}
+use Rattle.mixing.proofs.Only.{by_turns, only_bind, only_pick, only_raw, only_write, only_wait}
+use Rattle.mixing.proofs.Sound.{Sound, Ends, bits_bracket, honest_plain, under_heeds, under_addressed, under_wp}
 use Rattle.mixing.proofs.Wp.{View, with_sel, Wp, wp_end, wp_ask, wp_then, wp_pick, wp_read, wp_write}
 
 pub kind_ctrl : (f : Family) → kind f 0x11144 ≡ is_ctrl
@@ -95,20 +98,20 @@ module _ (f : Family) (pause a : ℕ) where
   data_register : NotLock (kind f 0x11148)
   data_register = subst NotLock (sym (kind_data f)) tt
 
-  unlocked_idle : Only NotLock f (iosf_idle pause)
+  unlocked_idle : Only (On NotLock f) (iosf_idle pause)
   unfolding iosf_idle
   unlocked_idle =
-      by_turns (λ g. (last : ℕ) → Only NotLock f (g last)) (iosf_turn pause) (λ last. fail (Timeout 0x11144 0x80000000 0 last))
-      (λ again g last. only_bind (only_raw ctrl) (λ v. only_pick (is_clear v 0x80000000) only_end (only_bind only_wait (λ _. g v))))
+      by_turns (λ g. (last : ℕ) → Only (On NotLock f) (g last)) (iosf_turn pause) (λ last. fail (Timeout 0x11144 0x80000000 0 last))
+      (λ again g last. only_bind (only_raw ctrl) (λ v. only_pick (is_clear v 0x80000000) only_end (only_bind (only_wait tt) (λ _. g v))))
       (λ last. only_end) 100 0
 
-  unlocked_read : Only NotLock f (kr_read_body pause a)
+  unlocked_read : Only (On NotLock f) (kr_read_body pause a)
   unlocked_read =
       only_bind unlocked_idle
       (λ _. only_bind (only_write ctrl)
       (λ _. only_bind unlocked_idle (λ v. only_pick (is_clear v 0xc0000) (only_raw data_register) only_end)))
 
-  unlocked_write : (w : ℕ) → Only NotLock f (kr_write_body pause a w)
+  unlocked_write : (w : ℕ) → Only (On NotLock f) (kr_write_body pause a w)
   unlocked_write w =
       only_bind unlocked_idle
       (λ _. only_bind (only_write ctrl)
@@ -124,24 +127,26 @@ module _ (pause : ℕ) (port : Port) where
   abbrev caller : Caller
   caller = record { pause = pause; device = port.device; lan = port.lan }
 
-  pub reads_kr : (a : ℕ) → Sound port.family is_ok (kr_read pause port a)
+  pub reads_kr : (a : ℕ) → a ≤ 0xffff → Sound port.family is_ok (kr_read pause port a)
   unfolding kr_read
-  reads_kr a =
+  reads_kr a h =
       record {
         made = access (reads caller a) end (sym (then_end (kr_read pause port a))) (λ r. done r);
         balanced = λ m W now. subst (Wp port.family (Ends is_ok m) W) (bits_only (kr_read_body pause a))
             (under_wp (bits_bracket port 6) honest_plain m (λ W₁ n. read_body_lem pause a W₁ n (n.mine 1 ∙ has_1 m)) W now);
         heeds = subst (Heeds port.family is_ok) (bits_only (kr_read_body pause a))
             (under_heeds (bits_bracket port 6) honest_plain (heeds_only (unlocked_read port.family pause a)));
+        addressed = subst Addressed (bits_only (kr_read_body pause a)) (under_addressed (bits_bracket port 6) honest_plain (read_addressed pause a h));
       }
 
-  pub writes_kr : (a w : ℕ) → Sound port.family is_ok (kr_write pause port a w)
+  pub writes_kr : (a w : ℕ) → a ≤ 0xffff → Sound port.family is_ok (kr_write pause port a w)
   unfolding kr_write
-  writes_kr a w =
+  writes_kr a w h =
       record {
         made = access (writes caller a w) end (sym (then_end (kr_write pause port a w))) (λ r. done r);
         balanced = λ m W now. subst (Wp port.family (Ends is_ok m) W) (bits_only (kr_write_body pause a w))
             (under_wp (bits_bracket port 6) honest_plain m (λ W₁ n. write_body_lem pause a W₁ n (n.mine 1 ∙ has_1 m) w) W now);
         heeds = subst (Heeds port.family is_ok) (bits_only (kr_write_body pause a w))
             (under_heeds (bits_bracket port 6) honest_plain (heeds_only (unlocked_write port.family pause a w)));
+        addressed = subst Addressed (bits_only (kr_write_body pause a w)) (under_addressed (bits_bracket port 6) honest_plain (write_addressed pause a h w));
       }

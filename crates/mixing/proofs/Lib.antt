@@ -4,6 +4,7 @@ pub mod Lock
 pub mod Hold
 pub mod Plain
 pub mod Heed
+pub mod Addressed
 pub mod Sound
 pub mod Kr
 pub mod Loc
@@ -18,6 +19,7 @@ pub mod Mdio
 pub mod X552
 pub mod X553
 pub mod Operations
+pub mod Selected
 pub mod Claim
 pub mod Alone
 pub mod Pairs

@@ -14,12 +14,13 @@ use Rattle.hardware.specs.declared.Family.TheVariants.{X552, X553}
 use Rattle.reference.specs.Acquire.{locked}
 use Rattle.reference.specs.Sync.{plain, both, held_taken, release_bits}
 use Rattle.reference.specs.X552.{iosf_turn, iosf_idle, kr_read_body, kr_write_body, kr_read, kr_write}
+use Rattle.mixing.specs.Only.{only_end, only_ask}
 use Rattle.mixing.specs.Mixing.{RightGave}
 use Rattle.mixing.specs.Model.{Kind, is_swsm, is_sync, is_ctrl, is_data, is_other, kind}
 use Rattle.mixing.specs.Events.{Touch, if_data, touch, word}
 use Rattle.mixing.specs.System.{Caller, port_of, Access, reads, writes, Given, access_talk, NotIosf, Outside, seen_then}
 use Rattle.mixing.proofs.Kr.{bits_only}
-use Rattle.mixing.proofs.Only.{by_turns, only_end, only_ask}
+use Rattle.mixing.proofs.Only.{by_turns}
 use Rattle.mixing.proofs.Plain.{Plain, plain_acquire, plain_release}
 
 -- the address that this access selected, if it did; a store to SW_FW_SYNC may let go of the lock

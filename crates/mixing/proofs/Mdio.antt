@@ -34,8 +34,9 @@ use Rattle.reference.specs.Mdio.{
   an_link,
 }
 use Rattle.reference.specs.Sync.{plain}
+use Rattle.mixing.specs.Only.{only_end, only_ask}
 use Rattle.mixing.specs.Events.{is_ok}
-use Rattle.mixing.proofs.Only.{by_turns, far, Quiet, only_end, only_ask, only_bind, only_pick, only_read, only_raw, only_write}
+use Rattle.mixing.proofs.Only.{by_turns, far, Quiet, only_bind, only_pick, only_read, only_raw, only_write}
 use Rattle.mixing.proofs.Sound.{Sound, quietly, ends, picks, waits, bind, under, honest_plain}
 use Rattle.mixing.proofs.Token.{token_bracket}
 

@@ -1,12 +1,13 @@
--- Conversations whose actions are on registers of some kinds alone
+-- Conversations that do only some actions, and those on registers of some kinds alone
 use Rattle.std.specs.Prelude.{Err, Ok}
-use Rattle.hardware.specs.Talk.{Talk, Res, end, ask, and_then, pick, or_stop, ◌>>=◌, attempt, times, read, read_raw, write, flush, delay, Reply}
+use Rattle.hardware.specs.Talk.{Talk, Res, and_then, pick, or_stop, ◌>>=◌, attempt, times, read, read_raw, write, flush, delay}
 use Prim.Native.Nat.{ℕ, zero, suc}
 use mathlib.Core.Bool.{Bool, true, false}
 use Rattle.hardware.specs.declared.Action.{Action}
 use Rattle.hardware.specs.declared.Action.TheVariants as action
 use Rattle.hardware.specs.declared.Family.{Family}
 use Rattle.hardware.specs.declared.Family.TheVariants.{X552, X553}
+use Rattle.mixing.specs.Only.{Only, only_end, only_ask}
 use Rattle.mixing.specs.Model.{Kind, is_swsm, is_sync, is_ctrl, is_data, is_other, kind, On}
 
 -- a loop keeps what each turn keeps
@@ -15,43 +16,38 @@ unfolding times
 by_turns P turn after h z zero = z
 by_turns P turn after h z (suc n) = h (times n turn after) (by_turns P turn after h z n)
 
-pub data Only {A : Type 0} (K : Kind → Type 0) (f : Family) : Talk A → Type 0 where
-  only_end : {a : A} → Only K f (end a)
-  only_ask : {a : Action} {c : Reply → Talk A} → On K f a → ((r : Reply) → Only K f (c r)) → Only K f (ask a c)
-
-module _ {K : Kind → Type 0} {f : Family} where
-  pub only_then : {A B : Type 0} {t : Talk A} {k : A → Talk B} → Only K f t → ((a : A) → Only K f (k a)) → Only K f (and_then t k)
+module _ {P : Action → Type 0} where
+  pub only_then : {A B : Type 0} {t : Talk A} {k : A → Talk B} → Only P t → ((a : A) → Only P (k a)) → Only P (and_then t k)
   only_then only_end h = h _
   only_then (only_ask o p) h = only_ask o (λ r. only_then (p r) h)
 
-  pub only_stop : {A B : Type 0} {k : A → Talk (Res B)} → ((a : A) → Only K f (k a)) → (r : Res A) → Only K f (or_stop k r)
+  pub only_stop : {A B : Type 0} {k : A → Talk (Res B)} → ((a : A) → Only P (k a)) → (r : Res A) → Only P (or_stop k r)
   only_stop h (Ok a) = h a
   only_stop h (Err e) = only_end
 
-  pub only_bind : {A B : Type 0} {t : Talk (Res A)} {k : A → Talk (Res B)} → Only K f t → ((a : A) → Only K f (k a)) → Only K f (t >>= k)
+  pub only_bind : {A B : Type 0} {t : Talk (Res A)} {k : A → Talk (Res B)} → Only P t → ((a : A) → Only P (k a)) → Only P (t >>= k)
   only_bind p h = only_then p (only_stop h)
 
-  pub only_attempt : {A B : Type 0} {t : Talk (Res A)} {k : Res A → Talk (Res B)} → Only K f t → ((r : Res A) → Only K f (k r))
-      → Only K f (attempt t >>= k)
+  pub only_attempt : {A B : Type 0} {t : Talk (Res A)} {k : Res A → Talk (Res B)} → Only P t → ((r : Res A) → Only P (k r))
+      → Only P (attempt t >>= k)
   only_attempt only_end h = h _
   only_attempt (only_ask o p) h = only_ask o (λ r. only_attempt (p r) h)
 
-  pub only_pick : {A : Type 0} (b : Bool) {t u : Talk A} → Only K f t → Only K f u → Only K f (pick b t u)
+  pub only_pick : {A : Type 0} (b : Bool) {t u : Talk A} → Only P t → Only P u → Only P (pick b t u)
   only_pick true p q = p
   only_pick false p q = q
 
-  pub only_wait : {n : ℕ} → Only K f (delay n)
-  only_wait = only_ask tt (λ _. only_end)
+  pub only_wait : {n : ℕ} → P (action.Wait n) → Only P (delay n)
+  only_wait h = only_ask h (λ _. only_end)
 
-  module _ {r : ℕ} (h : K (kind f r)) where
-    pub only_read : Only K f (read r)
-    only_read = only_ask h (λ _. only_end)
+  pub only_read : {r : ℕ} → P (action.Read r) → Only P (read r)
+  only_read h = only_ask h (λ _. only_end)
 
-    pub only_raw : Only K f (read_raw r)
-    only_raw = only_ask h (λ _. only_end)
+  pub only_raw : {r : ℕ} → P (action.Read r) → Only P (read_raw r)
+  only_raw h = only_ask h (λ _. only_end)
 
-    pub only_write : {v : ℕ} → Only K f (write r v)
-    only_write = only_ask h (λ _. only_end)
+  pub only_write : {r v : ℕ} → P (action.Write r v) → Only P (write r v)
+  only_write h = only_ask h (λ _. only_end)
 
 -- ---- none of the model's registers
 
@@ -63,7 +59,7 @@ IsFar is_data = ⊥
 IsFar is_other = Unit {0}
 
 abbrev pub Quiet : {A : Type 0} → Family → Talk A → Type 0
-Quiet f t = Only IsFar f t
+Quiet f t = Only (On IsFar f) t
 
 -- a register that is none of them in either family
 pub far : (r : ℕ) → IsFar (kind X552 r) → IsFar (kind X553 r) → (f : Family) → IsFar (kind f r)
@@ -83,9 +79,9 @@ on_any K h f (action.Write r v) e = far_any K h (kind f r) e
 on_any K h f (action.Wait n) e = tt
 
 -- so it is among whatever kinds have the other registers
-pub quiet_only : {A : Type 0} {K : Kind → Type 0} → K is_other → {f : Family} {t : Talk A} → Quiet f t → Only K f t
-quiet_only h only_end = only_end
-quiet_only {K = K} h {f} (only_ask {a} e p) = only_ask (on_any K h f a e) (λ r. quiet_only h (p r))
+pub quiet_only : {A : Type 0} (K : Kind → Type 0) → K is_other → (f : Family) {t : Talk A} → Quiet f t → Only (On K f) t
+quiet_only K h f only_end = only_end
+quiet_only K h f (only_ask {a} e p) = only_ask (on_any K h f a e) (λ r. quiet_only K h f (p r))
 
 pub quiet_flush : (f : Family) → Quiet f flush
 quiet_flush f = only_ask (far 0x8 tt tt f) (λ _. only_end)

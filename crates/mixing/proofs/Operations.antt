@@ -1,20 +1,19 @@
 -- Every operation of document 01 that is mixed keeps the rules: a line each
 use Rattle.std.specs.Prelude.{Err, Ok}
 use Rattle.hardware.specs.Talk.{Call, Res, is_clear}
-use Prim.Native.Nat.{ℕ, ◌≤◌}
+use Prim.Native.Nat.{ℕ}
 use mathlib.Core.Path.{◌≡◌, refl, sym}
 use mathlib.Core.Bool.{Bool, true, false, ◌&&◌, true≢false}
 use mathlib.Core.List.{List, []}
-use lib.ListN.{length}
 use Rattle.hardware.specs.declared.Family.{Family}
 use Rattle.hardware.specs.declared.Family.TheVariants as familyv
 use Rattle.hardware.specs.declared.Port.{Port}
-use Rattle.hardware.proofs.Refusal.{taken}
+use Rattle.hardware.proofs.Refusal.{Taken, taken}
 use Rattle.answers.specs.declared.Value.{Value}
 use Rattle.reference.specs.Hardware as hardware
 use Rattle.reference.specs.Bringup.{after_reset, bringup552, bringup553, bringup_of, bringup}
 use Rattle.reference.specs.Out.{answer}
-use Rattle.operations.specs.Addresses.{addresses, refused}
+use Rattle.operations.specs.Request.{request, refused}
 use Rattle.operations.specs.Operations.{operation_with}
 use Rattle.operations.specs.declared.Operation.{Operation}
 use Rattle.operations.specs.declared.Operation.TheVariants as operationv
@@ -52,13 +51,14 @@ module _ (pause : ℕ) (port : Port) where
   unfolding bringup
   s_bringup veto = s_bringup_of veto port.family
 
-  sound_op : (what : Operation) (ws : List ℕ) → mixable what ≡ true → length ws ≤ 16
+  pub sound_op : (what : Operation) (ws : List ℕ) → mixable what ≡ true → Taken (request port what ws)
       → Sound port.family ended_well (operation_with pause port what ws)
+  unfolding request
   sound_op operationv.Veto ws m h = answers _ (bind (s_read (far 0x42d0 tt tt port.family)) (λ mmngc. ends))
   sound_op operationv.Link ws m h = answers _ (bind (s_read (far 0x42a4 tt tt port.family)) s_linked)
   sound_op (operationv.Acquire mask) ws m h = absurd (true≢false (sym m))
   sound_op (operationv.Release mask) ws m h = absurd (true≢false (sym m))
-  sound_op operationv.Command ws m h = bind_block (s_command port ws h) (λ status b. ends)
+  sound_op operationv.Command ws m h = bind_block (s_command port ws h.words) (λ status b. ends)
   sound_op (operationv.Token take) ws m h = answers _ (s_token port take)
   sound_op (operationv.PhyActivity asked) ws m h = answers _ (s_activity port asked.activity asked.data.w0 asked.data.w1 asked.data.w2 asked.data.w3)
   sound_op (operationv.ReadReg phy device register) ws m h = answers _ (s_read_reg port phy device register)
@@ -70,9 +70,9 @@ module _ (pause : ℕ) (port : Port) where
   sound_op (operationv.Abilities phy) ws m h = answers _ (s_abilities port phy)
   sound_op (operationv.Advertise asked) ws m h = answers _ (s_advertise port asked.phy asked.speeds asked.nbase asked.veto)
   sound_op (operationv.AnLink phy) ws m h = answers _ (s_an_link port phy)
-  sound_op (operationv.KrRead address) ws m h = answers _ (reads_kr pause port address)
-  sound_op (operationv.KrWrite address value) ws m h = answers _ (writes_kr pause port address value)
-  sound_op (operationv.KrModify c) ws m h = answers _ (s_kr_modify pause port c.port0 c.keep c.set)
+  sound_op (operationv.KrRead address) ws m h = answers _ (reads_kr pause port address h.selected)
+  sound_op (operationv.KrWrite address value) ws m h = answers _ (writes_kr pause port address value h.selected)
+  sound_op (operationv.KrModify c) ws m h = answers _ (s_kr_modify pause port c.port0 c.keep c.set h.selected)
   sound_op operationv.RestartAn ws m h = answers _ (s_restart pause port)
   sound_op (operationv.KrAutoneg kr kx) ws m h = answers _ (s_autoneg pause port kr kx)
   sound_op (operationv.NvmWord word) ws m h = answers _ (s_nvm port word)
@@ -80,7 +80,7 @@ module _ (pause : ℕ) (port : Port) where
   sound_op (operationv.Bringup veto) ws m h = keeps [] (s_bringup veto)
   sound_op (operationv.Poll w) ws m h = answers _ (s_poll pause port w.phy w.internal w.forced w.reforced)
 
--- one that is not refused has a host block of at most 16 words
+-- one that is mixed is not refused
 pub is_ok_lem : (r : Res (Unit {0})) → is_ok r ≡ true → r ≡ Ok tt
 is_ok_lem (Ok _) e = refl
 is_ok_lem (Err d) e = absurd (true≢false (sym e))
@@ -94,4 +94,4 @@ pub sound : (pause : ℕ) (port : Port) (what : Operation) (ws : List ℕ) → t
 sound pause port what ws h =
     let verdict : Res (Unit {0}) = refused port what ws in
     sound_op pause port what ws (and_left (mixable what) (is_ok verdict) h)
-    (taken port (addresses what).0 (addresses what).1 (length ws) (is_ok_lem verdict (and_right (mixable what) (is_ok verdict) h))).words
+    (taken (request port what ws) (is_ok_lem verdict (and_right (mixable what) (is_ok verdict) h)))

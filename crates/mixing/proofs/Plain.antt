@@ -29,28 +29,15 @@ use Rattle.reference.specs.Sync.{
   release_bits_locked,
   release_bits,
 }
-use Rattle.mixing.specs.Model.{kind}
+use Rattle.mixing.specs.Only.{Only, only_end, only_ask}
+use Rattle.mixing.specs.Model.{kind, On}
 use Rattle.mixing.specs.System.{NotIosf, Made, done, other}
-use Rattle.mixing.proofs.Only.{
-  by_turns,
-  Only,
-  only_end,
-  only_ask,
-  only_stop,
-  only_bind,
-  only_attempt,
-  only_pick,
-  only_read,
-  only_write,
-  only_wait,
-  quiet_only,
-  quiet_flush,
-}
+use Rattle.mixing.proofs.Only.{by_turns, only_stop, only_bind, only_attempt, only_pick, only_read, only_write, only_wait, quiet_only, quiet_flush}
 use Rattle.mixing.proofs.Lock.{kind_swsm, kind_sync}
 use Rattle.mixing.proofs.Hold.{quiet_mux}
 
 abbrev pub Plain : {A : Type 0} → Family → Talk A → Type 0
-Plain f t = Only NotIosf f t
+Plain f t = Only (On NotIosf f) t
 
 pub made_plain : {A : Type 0} {f : Family} {t : Talk A} → Plain f t → Made f t
 made_plain only_end = done _
@@ -64,7 +51,7 @@ module _ (f : Family) where
   sync_out = subst NotIosf (sym (kind_sync f)) tt
 
   plain_flush : Plain f flush
-  plain_flush = quiet_only tt (quiet_flush f)
+  plain_flush = quiet_only NotIosf tt f (quiet_flush f)
 
   plain_clear : {r : ℕ} (b : ℕ) → NotIosf (kind f r) → Plain f (clear r b)
   plain_clear b h = only_bind (only_read h) (λ v. only_write h)
@@ -72,20 +59,20 @@ module _ (f : Family) where
   plain_smbi : Plain f (smbi (regs f).swsm)
   plain_smbi =
       by_turns (Plain f) (smbi_turn (regs f).swsm) (fail (Semaphore 1))
-      (λ again g. only_bind (only_read swsm_out) (λ v. only_pick (is_clear v 1) only_end (only_bind only_wait (λ _. g)))) only_end 2000
+      (λ again g. only_bind (only_read swsm_out) (λ v. only_pick (is_clear v 1) only_end (only_bind (only_wait tt) (λ _. g)))) only_end 2000
 
   plain_lock : Plain f (lock (regs f))
   plain_lock =
       only_bind plain_smbi
       (λ _. by_turns (Plain f) (regsmp_turn (regs f).sync) (regsmp_failed (regs f).swsm)
-      (λ again g. only_bind (only_read sync_out) (λ v. only_pick (is_clear v 0x80000000) only_end (only_bind only_wait (λ _. g))))
+      (λ again g. only_bind (only_read sync_out) (λ v. only_pick (is_clear v 0x80000000) only_end (only_bind (only_wait tt) (λ _. g))))
       (only_bind (plain_clear 1 swsm_out) (λ _. only_bind plain_flush (λ _. only_end))) 2000)
 
   plain_unlock : Plain f (unlock (regs f))
   plain_unlock = only_bind (plain_clear 0x80000000 sync_out) (λ _. only_bind (plain_clear 1 swsm_out) (λ _. plain_flush))
 
   plain_mux : (on : Bool) → Plain f (set_mux on)
-  plain_mux on = quiet_only tt (quiet_mux f on)
+  plain_mux on = quiet_only NotIosf tt f (quiet_mux f on)
 
   plain_got : (want : Bits) (switch : Bool) (again : ℕ → Call (Unit {0})) → ((held : ℕ) → Plain f (again held)) → (r : Res ℕ)
       → Plain f (acquire_bits_got (regs f) want switch again r)
@@ -94,7 +81,7 @@ module _ (f : Family) where
       only_pick (is_clear v (busy want))
       (only_attempt (only_write sync_out)
       (λ taken. only_bind plain_unlock (λ _. only_stop {A = Unit {0}} (λ _. only_pick switch (plain_mux true) (only_end {a = Ok tt})) taken)))
-      (only_bind plain_unlock (λ _. only_bind (only_wait {n = 5000}) (λ _. g (bit_and v (busy want)))))
+      (only_bind plain_unlock (λ _. only_bind (only_wait {n = 5000} tt) (λ _. g (bit_and v (busy want)))))
 
 pub plain_acquire : (port : Port) (mask : ℕ) → Plain port.family (acquire_bits port mask)
 unfolding acquire_bits
@@ -112,5 +99,5 @@ plain_release port mask =
     let locked : Plain f (release_bits_locked (regs f) (bits mask).sw (settle mask)) =
     only_bind (plain_lock f)
     (λ _. only_attempt (plain_clear f (bits mask).sw (sync_out f))
-    (λ cleared. only_bind (plain_unlock f) (λ _. only_stop (λ _. only_wait) cleared))) in
+    (λ cleared. only_bind (plain_unlock f) (λ _. only_stop (λ _. only_wait tt) cleared))) in
     only_pick (mux port mask) (only_bind (plain_mux f false) (λ _. locked)) locked

@@ -14,14 +14,17 @@ use Rattle.hardware.specs.declared.Port.{Port}
 use Rattle.hardware.proofs.Laws.{then_assoc}
 use Rattle.words.specs.Semaphore.{software, bits}
 use Rattle.reference.specs.Sync.{mux, acquire_bits, settle, release_bits, Ending, plain, with_block, held, held_done, held_taken}
+use Rattle.mixing.specs.Addressed.{Addressed}
+use Rattle.mixing.specs.Only.{only_end, only_ask}
 use Rattle.mixing.specs.Heeded as heeded
-use Rattle.mixing.specs.Heeded.{Fails, fails_end, Heeds, heeds_end, heeds_ask}
+use Rattle.mixing.specs.Heeded.{NotLock, Fails, fails_end, Heeds, heeds_end, heeds_ask}
 use Rattle.mixing.specs.Events.{is_ok}
-use Rattle.mixing.specs.System.{access_talk, Made, done, other, access}
+use Rattle.mixing.specs.System.{NotIosf, access_talk, Made, done, other, access}
+use Rattle.mixing.proofs.Addressed.{plain_addressed, quiet_addressed}
 use Rattle.mixing.proofs.Heed.{fails_after, heeds_then, heeds_lock, heeds_only}
 use Rattle.mixing.proofs.Hold.{Clean, Now, Least, least, plus, minus, software_bits, quiet_mux, acquires, releases}
 use Rattle.mixing.proofs.Lock.{or_stop_lem, and_left}
-use Rattle.mixing.proofs.Only.{Quiet, only_end, quiet_only}
+use Rattle.mixing.proofs.Only.{Quiet, only_then, quiet_only}
 use Rattle.mixing.proofs.Plain.{made_plain, plain_acquire, plain_release}
 use Rattle.mixing.proofs.Wp.{View, Wp, wp_end, wp_ask, wp_then, wp_mono, wp_pick, quiet_wp}
 
@@ -50,18 +53,20 @@ ends_bad : {b : Bool} {m : ℕ → Bool} {W : View} → b ≡ false → Least m 
 ends_bad {m = m} {W} e l = subst (λ b. EndsIf b m W) (sym e) l
 
 -- `well`: which answers are no errors. It can be taken apart, it keeps the rules, where it ends well it gives back what it
--- took, and it heeds the errors of acquire_bits and release_bits
+-- took, it heeds the errors of acquire_bits and release_bits, and what it writes to CTRL is an address in range
 pub record Sound {A : Type 0} (f : Family) (well : A → Bool) (t : Talk A) : Type 0 where
   pub made : Made f t
   pub balanced : (m : ℕ → Bool) (W : View) → Now m W → Wp f (Ends well m) W t
   pub heeds : Heeds f well t
+  pub addressed : Addressed t
 
 pub quietly : {A : Type 0} {f : Family} {well : A → Bool} {t : Talk A} → Quiet f t → Sound f well t
-quietly {well = well} q =
+quietly {f = f} {well = well} q =
     record {
-      made = made_plain (quiet_only tt q);
+      made = made_plain (quiet_only NotIosf tt f q);
       balanced = λ m W now. quiet_wp q (λ a. ends_here (well a) now);
-      heeds = heeds_only (quiet_only tt q);
+      heeds = heeds_only (quiet_only NotLock tt f q);
+      addressed = quiet_addressed f q;
     }
 
 pub ends : {A : Type 0} {f : Family} {well : A → Bool} {a : A} → Sound f well (end a)
@@ -77,6 +82,7 @@ waits s =
       made = other tt (λ _. s.made);
       balanced = λ m W now. wp_ask tt (λ _ _. s.balanced m W now);
       heeds = heeds_ask tt (λ _. s.heeds);
+      addressed = only_ask tt (λ _. s.addressed);
     }
 
 -- it has ended with an error
@@ -93,6 +99,7 @@ follows {A} {B} {f} {well} {well'} {t} {k} s h z =
       made = made_then s.made (λ a. made_on a (well a) refl);
       balanced = λ m W now. wp_then (wp_mono (λ W₁ a e. goes m W₁ a (well a) refl e) (s.balanced m W now));
       heeds = heeds_then s.heeds (λ a. heeds_on a (well a) refl) (λ a e. subst (Fails well') (sym (z a e).is) (fails_end (z a e).bad));
+      addressed = only_then s.addressed (λ a. addressed_on a (well a) refl);
     }
   where
     made_on : (a : A) (b : Bool) → well a ≡ b → Made f (k a)
@@ -102,6 +109,10 @@ follows {A} {B} {f} {well} {well'} {t} {k} s h z =
     heeds_on : (a : A) (b : Bool) → well a ≡ b → Heeds f well' (k a)
     heeds_on a true e = (h a e).heeds
     heeds_on a false e = subst (Heeds f well') (sym (z a e).is) heeds_end
+
+    addressed_on : (a : A) (b : Bool) → well a ≡ b → Addressed (k a)
+    addressed_on a true e = (h a e).addressed
+    addressed_on a false e = subst Addressed (sym (z a e).is) only_end
 
     goes : (m : ℕ → Bool) (W₁ : View) (a : A) (b : Bool) → well a ≡ b → EndsIf b m W₁ → Wp f (Ends well' m) W₁ (k a)
     goes m W₁ a true e now = (h a e).balanced m W₁ now
@@ -169,6 +180,8 @@ pub record Bracket (f : Family) (s : ℕ) (take give : Call (Unit {0})) : Type 0
   pub give_made : Made f give
   pub take_heeds : Heeds f is_ok take
   pub give_heeds : Heeds f is_ok give
+  pub take_addressed : Addressed take
+  pub give_addressed : Addressed give
 
 -- what `held` makes of errors: none is lost
 pub record Honest {X : Type 0} (well : X → Bool) (ending : Ending X) : Type 0 where
@@ -255,6 +268,13 @@ module _ {X : Type 0} {f : Family} {s : ℕ} {take give : Call (Unit {0})} {well
       fails_taken (Ok _) e = absurd (true≢false e)
       fails_taken (Err d) e = fails_end (honest.before d)
 
+  pub under_addressed : Addressed body → Addressed (held ending take give body)
+  under_addressed b = only_then bracket.take_addressed taken
+    where
+      taken : (r : Res (Unit {0})) → Addressed (held_taken ending give body r)
+      taken (Err e) = only_end
+      taken (Ok _) = only_then b (λ x. only_then bracket.give_addressed (λ r. only_end))
+
   -- the body has the bits s besides m
   pub under_wp : (m : ℕ → Bool) → ((W : View) → Now (plus m s) W → Wp f (Ends well (plus m s)) W body)
       → (W : View) → Now m W → Wp f (Ends well m) W (held ending take give body)
@@ -279,6 +299,7 @@ module _ {X : Type 0} {f : Family} {s : ℕ} {take give : Call (Unit {0})} {well
         made = made_then bracket.take_made taken;
         balanced = λ m. under_wp m (b.balanced (plus m s));
         heeds = under_heeds b.heeds;
+        addressed = under_addressed b.addressed;
       }
     where
       taken : (r : Res (Unit {0})) → Made f (held_taken ending give body r)
@@ -299,6 +320,8 @@ bits_bracket port mask =
       give_made = made_plain (plain_release port mask);
       take_heeds = heeds_lock (heeded.acquires port mask);
       give_heeds = heeds_lock (heeded.releases port mask);
+      take_addressed = plain_addressed port.family (plain_acquire port mask);
+      give_addressed = plain_addressed port.family (plain_release port mask);
     }
   where
     gave : (m : ℕ → Bool) (W₁ : View) (r : Res (Unit {0})) → Now (minus m (software mask)) W₁ → Gave m (software mask) W₁ r

@@ -27,12 +27,16 @@ use Rattle.reference.specs.Acquire.{
 use Rattle.reference.specs.Hostif.{token}
 use Rattle.reference.specs.Sync.{acquire_bits, release_bits}
 use Rattle.mixing.specs.Heeded.{Fails, fails_end, Heeds, heeds_end, heeds_ask}
+use Rattle.mixing.specs.Addressed.{Addressed}
 use Rattle.mixing.specs.Events.{is_ok}
+use Rattle.mixing.specs.Only.{only_end, only_ask}
 use Rattle.mixing.specs.System.{Made, done, other}
+use Rattle.mixing.proofs.Addressed.{plain_addressed}
 use Rattle.mixing.proofs.Heed.{fails_after, heeds_then, heeds_bind}
 use Rattle.mixing.proofs.Hold.{Now, Least, least, plus, minus}
 use Rattle.mixing.proofs.Hostif.{s_token}
-use Rattle.mixing.proofs.Only.{by_turns}
+use Rattle.mixing.proofs.Only.{by_turns, only_bind, only_attempt, only_pick}
+use Rattle.mixing.proofs.Plain.{plain_acquire, plain_release}
 use Rattle.mixing.proofs.Sound.{Bracket, Took, Gave, EndsIf, bits_bracket, gives_back, gives_back_least, here, made_then}
 use Rattle.mixing.proofs.Wp.{View, Wp, wp_end, wp_ask, wp_then, wp_attempt, wp_mono, wp_pick}
 
@@ -217,6 +221,51 @@ module _ (port : Port) (hw : ℕ) (some_bits : eqb hw 0 ≡ false) where
   unfolding release_rest
   fails_rest e = fails_pick (eqb hw 0) (fails_end refl) (fails_with (release_bits port hw) e)
 
+-- ---- what they write, of any mask
+
+module _ (port : Port) (hw : ℕ) where
+  module _ {again : Call (Unit {0})} (g : Addressed again) where
+    lost_addressed : (granted : Res Bool) → Addressed (acquire_lost granted again)
+    unfolding acquire_lost
+    lost_addressed (Ok b) = only_ask tt (λ _. g)
+    lost_addressed (Err e) = only_end
+
+    given_addressed : (granted : Res Bool) → Addressed (acquire_given port hw again granted)
+    unfolding acquire_given
+    given_addressed granted =
+        only_pick (eqb hw 0) (lost_addressed granted)
+        (only_bind (plain_addressed port.family (plain_release port hw)) (λ _. lost_addressed granted))
+
+    got_addressed : (granted : Res Bool) → Addressed (acquire_got port hw again granted)
+    unfolding acquire_got
+    got_addressed (Ok true) = only_end
+    got_addressed (Ok false) = given_addressed (Ok false)
+    got_addressed (Err e) = given_addressed (Err e)
+
+    ask_addressed : Addressed (acquire_ask port hw again)
+    unfolding acquire_ask
+    ask_addressed = only_attempt (s_token port true).addressed got_addressed
+
+    turn_addressed : Addressed (acquire_turn port hw again)
+    turn_addressed =
+        only_pick (eqb hw 0) ask_addressed (only_bind (plain_addressed port.family (plain_acquire port hw)) (λ _. ask_addressed))
+
+  rest_addressed : (r : Res (Unit {0})) → Addressed (release_rest port hw r)
+  unfolding release_rest
+  rest_addressed r = only_pick (eqb hw 0) only_end (only_bind (plain_addressed port.family (plain_release port hw)) (λ _. only_end))
+
+pub acquire_addressed : (port : Port) (mask : ℕ) → Addressed (acquire port mask)
+unfolding acquire
+acquire_addressed port mask =
+    only_pick (is_clear mask 0x40000000) (plain_addressed port.family (plain_acquire port (hw_of mask)))
+    (by_turns Addressed (acquire_turn port (hw_of mask)) (fail (Firmware 0x0a 0x80)) (λ again. turn_addressed port (hw_of mask)) only_end 1000)
+
+pub release_addressed : (port : Port) (mask : ℕ) → Addressed (release port mask)
+unfolding release
+release_addressed port mask =
+    only_pick (is_clear mask 0x40000000) (rest_addressed port (hw_of mask) (Ok tt))
+    (only_attempt (s_token port false).addressed (λ given. rest_addressed port (hw_of mask) (forget given)))
+
 pub token_bracket : (port : Port) (mask : ℕ) → eqb (hw_of mask) 0 ≡ false → Bracket port.family (software (hw_of mask)) (acquire port mask) (release port mask)
 unfolding acquire release
 token_bracket port mask h =
@@ -238,4 +287,6 @@ token_bracket port mask h =
       give_heeds = heeds_pick (is_clear mask 0x40000000) (heeds_rest port hw h (Ok tt))
           (heeds_attempt (token port false) (λ given. release_rest port hw (forget given)) (s_token port false).heeds (λ given. heeds_rest port hw h (forget given))
           (fails_rest port hw h));
+      take_addressed = acquire_addressed port mask;
+      give_addressed = release_addressed port mask;
     }

@@ -11,9 +11,10 @@ use Rattle.hardware.specs.Bits.{bit}
 use Rattle.hardware.specs.declared.Action.{Action}
 use Rattle.hardware.specs.declared.Action.TheVariants as action
 use Rattle.hardware.specs.declared.Family.{Family}
+use Rattle.mixing.specs.Only.{only_end, only_ask}
 use Rattle.mixing.specs.Model.{Kind, is_swsm, is_sync, is_ctrl, is_data, is_other, kind, On, fw_bits}
 use Rattle.mixing.specs.Events.{word}
-use Rattle.mixing.proofs.Only.{IsFar, only_end, only_ask, Quiet}
+use Rattle.mixing.proofs.Only.{IsFar, Quiet}
 
 -- what a port knows: whether SWSM bit 0 is its own; which bits of SW_FW_SYNC are; that word, if bit 31 is its own; the address
 -- that it selected under its lock, if any

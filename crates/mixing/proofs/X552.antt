@@ -1,7 +1,7 @@
 -- x552.rs and the Watch keep the rules
 use Rattle.std.specs.Prelude.{None, Option, Some}
 use Rattle.hardware.specs.Talk.{Call, is_clear, read}
-use Prim.Native.Nat.{ℕ, ◌/◌, ◌%◌, ◌^◌}
+use Prim.Native.Nat.{ℕ, ◌+◌, ◌/◌, ◌%◌, ◌^◌, ◌≤◌}
 use native.Mathlib.Omega.{arith}
 use mathlib.Core.Path.{refl}
 use mathlib.Core.Bool.{Bool, true, false}
@@ -45,12 +45,14 @@ use Rattle.reference.specs.X552.{
   vetoed,
   setup,
 }
+use Rattle.mixing.specs.Only.{only_end}
 use Rattle.mixing.specs.Model.{kind}
 use Rattle.mixing.specs.Events.{is_ok}
+use Rattle.mixing.proofs.Addressed.{on_lan}
 use Rattle.mixing.proofs.Hostif.{q_post}
 use Rattle.mixing.proofs.Kr.{reads_kr, writes_kr}
 use Rattle.mixing.proofs.Mdio.{s_read_reg, s_modify, s_probe, s_scan, s_reset, s_abilities, s_advertise, s_an_link}
-use Rattle.mixing.proofs.Only.{by_turns, IsFar, far, only_end, only_bind, only_read, only_raw, only_write}
+use Rattle.mixing.proofs.Only.{by_turns, IsFar, far, only_bind, only_read, only_raw, only_write}
 use Rattle.mixing.proofs.Sound.{Sound, quietly, ends, picks, waits, bind, under, honest_plain}
 use Rattle.mixing.proofs.Token.{token_bracket}
 
@@ -110,35 +112,40 @@ module _ (port : Port) where
 -- ---- with accesses
 
 module _ (pause : ℕ) (port : Port) where
-  pub s_kr_modify : (port0 keep set : ℕ) → Sound port.family is_ok (kr_modify pause port port0 keep set)
+  pub s_kr_modify : (port0 keep set : ℕ) → krm port.lan port0 ≤ 0xffff → Sound port.family is_ok (kr_modify pause port port0 keep set)
   unfolding kr_modify
-  s_kr_modify port0 keep set =
-      bind (reads_kr pause port (krm port.lan port0)) (λ v. bind (writes_kr pause port (krm port.lan port0) (changed keep set v)) (λ _. ends))
+  s_kr_modify port0 keep set h =
+      bind (reads_kr pause port (krm port.lan port0) h)
+      (λ v. bind (writes_kr pause port (krm port.lan port0) (changed keep set v) h) (λ _. ends))
+
+  -- of a register whose address the Rust names
+  pub s_kr_named : (port0 keep set : ℕ) → port0 + 0x4000 ≤ 0xffff → Sound port.family is_ok (kr_modify pause port port0 keep set)
+  s_kr_named port0 keep set h = s_kr_modify port0 keep set (on_lan port.lan port0 h)
 
   s_restart_lane : (lc1 : ℕ) (g : Family) → Sound port.family is_ok (restart_lane pause port lc1 g)
   s_restart_lane lc1 X552 = ends
-  s_restart_lane lc1 X553 = bind (s_kr_modify 0x5054 _ _) (λ _. ends)
+  s_restart_lane lc1 X553 = bind (s_kr_named 0x5054 _ _ (omega arith)) (λ _. ends)
 
   pub s_restart : Sound port.family is_ok (restart_an pause port)
   unfolding restart_an
-  s_restart = bind (s_kr_modify 0x420c _ _) (λ lc1. s_restart_lane lc1 port.family)
+  s_restart = bind (s_kr_named 0x420c _ _ (omega arith)) (λ lc1. s_restart_lane lc1 port.family)
 
   s_autoneg_lane : (lc1 : ℕ) (g : Family) → Sound port.family is_ok (kr_autoneg_lane pause port lc1 g)
   s_autoneg_lane lc1 X552 = bind s_restart (λ _. ends)
-  s_autoneg_lane lc1 X553 = bind (s_kr_modify 0x5054 _ _) (λ _. bind s_restart (λ _. ends))
+  s_autoneg_lane lc1 X553 = bind (s_kr_named 0x5054 _ _ (omega arith)) (λ _. bind s_restart (λ _. ends))
 
   pub s_autoneg : (kr kx : Bool) → Sound port.family is_ok (kr_autoneg pause port kr kx)
   unfolding kr_autoneg
-  s_autoneg kr kx = bind (s_kr_modify 0x420c _ _) (λ lc1. s_autoneg_lane lc1 port.family)
+  s_autoneg kr kx = bind (s_kr_named 0x420c _ _ (omega arith)) (λ lc1. s_autoneg_lane lc1 port.family)
 
   pub s_ixfi : (ten_gig : Bool) → Sound port.family is_ok (ixfi pause port ten_gig)
   unfolding ixfi
   s_ixfi ten_gig =
-      bind (s_kr_modify 0x420c _ _)
-      (λ lc1. bind (s_kr_modify 0x4b00 _ _)
-      (λ _. bind (s_kr_modify 0x4634 _ _)
-      (λ _. bind (s_kr_modify 0x4638 _ _)
-      (λ _. bind (s_kr_modify 0x5520 _ _)
+      bind (s_kr_named 0x420c _ _ (omega arith))
+      (λ lc1. bind (s_kr_named 0x4b00 _ _ (omega arith))
+      (λ _. bind (s_kr_named 0x4634 _ _ (omega arith))
+      (λ _. bind (s_kr_named 0x4638 _ _ (omega arith))
+      (λ _. bind (s_kr_named 0x5520 _ _ (omega arith))
       (λ _. bind s_restart (λ _. ends))))))
 
   s_copper_advertise : (veto : Bool) (x : X557) (s : Speeds) → Sound port.family is_ok (copper_advertise port veto x s)

@@ -2,6 +2,7 @@
 use Rattle.std.specs.Prelude.{None, Option, Some}
 use Rattle.hardware.specs.Talk.{Call, is_clear}
 use Prim.Native.Nat.{ℕ}
+use native.Mathlib.Omega.{arith}
 use mathlib.Core.Bool.{Bool, true, false, ◌||◌}
 use lib.Dec.{eqb}
 use Rattle.hardware.specs.declared.Port.{Port}
@@ -33,11 +34,12 @@ use Rattle.reference.specs.X553.{
   setup,
 }
 use Rattle.mixing.specs.Events.{is_ok}
+use Rattle.mixing.proofs.Addressed.{on_lan}
 use Rattle.mixing.proofs.Hostif.{s_activity}
 use Rattle.mixing.proofs.Kr.{writes_kr}
 use Rattle.mixing.proofs.Only.{far}
 use Rattle.mixing.proofs.Sound.{Sound, ends, picks, bind}
-use Rattle.mixing.proofs.X552.{s_read, s_clock, s_prepare_copper, s_vetoed, s_kr_modify, s_restart, s_autoneg}
+use Rattle.mixing.proofs.X552.{s_read, s_clock, s_prepare_copper, s_vetoed, s_kr_named, s_restart, s_autoneg}
 use Rattle.mixing.proofs.X552 as sound552
 
 module _ (port : Port) where
@@ -84,18 +86,18 @@ module _ (pause : ℕ) (port : Port) where
   s_sgmii : Sound port.family is_ok (sgmii pause port)
   unfolding sgmii
   s_sgmii =
-      bind (s_kr_modify pause port 0x420c _ _)
-      (λ lc1. bind (s_kr_modify pause port 0x42a0 _ _)
-      (λ forced. bind (s_kr_modify pause port 0x5054 _ _)
+      bind (s_kr_named pause port 0x420c _ _ (omega arith))
+      (λ lc1. bind (s_kr_named pause port 0x42a0 _ _ (omega arith))
+      (λ forced. bind (s_kr_named pause port 0x5054 _ _ (omega arith))
       (λ lane. bind (s_restart pause port) (λ _. ends))))
 
   s_sgmii_an : Sound port.family is_ok (sgmii_an pause port)
   unfolding sgmii_an
   s_sgmii_an =
-      bind (s_kr_modify pause port 0x420c _ _)
-      (λ lc1. bind (s_kr_modify pause port 0x42a0 _ _)
-      (λ _. bind (writes_kr pause port (krm port.lan 0x420c) lc1)
-      (λ _. bind (s_kr_modify pause port 0x5054 _ _)
+      bind (s_kr_named pause port 0x420c _ _ (omega arith))
+      (λ lc1. bind (s_kr_named pause port 0x42a0 _ _ (omega arith))
+      (λ _. bind (writes_kr pause port (krm port.lan 0x420c) lc1 (on_lan port.lan 0x420c (omega arith)))
+      (λ _. bind (s_kr_named pause port 0x5054 _ _ (omega arith))
       (λ flx. bind (s_restart pause port) (λ _. ends)))))
 
   s_firmware : (phy : FirmwarePhy) (down : Bool) → Sound port.family is_ok (setup_firmware pause port phy down)

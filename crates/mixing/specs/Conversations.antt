@@ -3,7 +3,7 @@ use Rattle.hardware.specs.Talk.{Talk, end, ask, pick, Reply}
 use Rattle.std.specs.Prelude.{ℕ, ◌≡◌, Bool, true, List, [], ◌∷◌, Err, Ok, Option, None, Some}
 use Rattle.hardware.specs.declared.Family.{Family}
 use Rattle.reference.specs.Out.{Out}
-use Rattle.operations.specs.Addresses.{refused}
+use Rattle.operations.specs.Request.{refused}
 use Rattle.calls.specs.Conversation.{Conv, opening, begun, step_talk}
 use Rattle.mixing.specs.Model.{Side, of_port, put, Chip, World, do_action, do_firmware, free}
 use Rattle.mixing.specs.Operations.{mixable, Asked, port_at}

@@ -6,6 +6,8 @@ pub mod Mixing
 pub mod Heeded
 pub mod Alone
 pub mod Conversations
+pub mod Only
+pub mod Addressed
 pub mod Tie
 pub mod Rule
 pub mod Turns

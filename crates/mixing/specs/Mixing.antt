@@ -4,7 +4,7 @@ use Rattle.std.specs.Prelude.{ℕ, ◌≡◌, refl, Bool, true, false, ◌&&◌,
 use Rattle.hardware.specs.declared.Family.{Family}
 use Rattle.hardware.specs.declared.Port.{Port}
 use Rattle.reference.specs.Out.{Out}
-use Rattle.operations.specs.Addresses.{refused}
+use Rattle.operations.specs.Request.{refused}
 use Rattle.operations.specs.Operations.{operation_with}
 use Rattle.operations.specs.declared.Operation.{Operation}
 use Rattle.mixing.specs.Model.{Side, of_port, put, free, Chip}
@@ -59,7 +59,7 @@ starting c = record { chip = c; ports = λ _. idle true; own = λ _. c.selected;
 abbrev pub Mixing : {O : Type 0} (f : Family) → (Side → O → Option (Begun f)) → Type 0
 Mixing {O} f ops = (bits address : ℕ) (regs : ℕ → ℕ) (es : List (Event O)) → Mixed regs (run f ops es (starting (free bits address regs)))
 
--- an operation that is mixed, and is not turned away by 20 to 23
+-- an operation that is mixed, and is not turned away
 abbrev pub takes : Port → Operation → List ℕ → Bool
 takes port what ws = mixable what && is_ok (refused port what ws)
 

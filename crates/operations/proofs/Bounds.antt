@@ -2,7 +2,6 @@
 use Prim.Native.Nat.{ℕ, ◌^◌, ◌≤◌, ◌<◌}
 use mathlib.Core.Bool.{Bool}
 use mathlib.Core.List.{List, []}
-use lib.ListN.{length}
 use native.Mathlib.Omega.{arith}
 use lib.Dec.{eqb}
 use Rattle.hardware.specs.Bound.{Within, at_end}
@@ -17,6 +16,7 @@ use Rattle.reference.specs.X552 as x552
 use Rattle.reference.specs.Bringup.{after_reset, bringup553, bringup_of, bringup}
 use Rattle.reference.specs.Out.{answer}
 use Rattle.operations.specs.Operations.{operation_with, operation}
+use Rattle.operations.specs.Request.{request}
 use Rattle.operations.specs.declared.Operation.{Operation}
 use Rattle.operations.specs.declared.Operation.TheVariants as operationv
 use Rattle.operations.specs.Bounds.{actions, micros}
@@ -105,29 +105,30 @@ pub record Fits (what : Operation) (ws : List ℕ) : Type 0 where
   pub of_actions : actions what ws < 2 ^ 63
   pub of_micros : micros what ws < 2 ^ 63
 
-pub operation_fits : (what : Operation) (ws : List ℕ) → length ws ≤ 16 → Fits what ws
-operation_fits operationv.Veto ws h = record { of_actions = omega arith; of_micros = omega arith }
-operation_fits operationv.Link ws h = record { of_actions = omega arith; of_micros = omega arith }
-operation_fits (operationv.Acquire mask) ws h = record { of_actions = omega arith; of_micros = omega arith }
-operation_fits (operationv.Release mask) ws h = record { of_actions = omega arith; of_micros = omega arith }
-operation_fits operationv.Command ws h = record { of_actions = omega arith; of_micros = omega arith }
-operation_fits (operationv.Token take) ws h = record { of_actions = omega arith; of_micros = omega arith }
-operation_fits (operationv.PhyActivity asked) ws h = record { of_actions = omega arith; of_micros = omega arith }
-operation_fits (operationv.ReadReg phy device register) ws h = record { of_actions = omega arith; of_micros = omega arith }
-operation_fits (operationv.WriteReg phy device register value) ws h = record { of_actions = omega arith; of_micros = omega arith }
-operation_fits (operationv.Modify at) ws h = record { of_actions = omega arith; of_micros = omega arith }
-operation_fits (operationv.Probe phy) ws h = record { of_actions = omega arith; of_micros = omega arith }
-operation_fits operationv.Scan ws h = record { of_actions = omega arith; of_micros = omega arith }
-operation_fits (operationv.Reset phy x557) ws h = record { of_actions = omega arith; of_micros = omega arith }
-operation_fits (operationv.Abilities phy) ws h = record { of_actions = omega arith; of_micros = omega arith }
-operation_fits (operationv.Advertise asked) ws h = record { of_actions = omega arith; of_micros = omega arith }
-operation_fits (operationv.AnLink phy) ws h = record { of_actions = omega arith; of_micros = omega arith }
-operation_fits (operationv.KrRead address) ws h = record { of_actions = omega arith; of_micros = omega arith }
-operation_fits (operationv.KrWrite address value) ws h = record { of_actions = omega arith; of_micros = omega arith }
-operation_fits (operationv.KrModify c) ws h = record { of_actions = omega arith; of_micros = omega arith }
-operation_fits operationv.RestartAn ws h = record { of_actions = omega arith; of_micros = omega arith }
-operation_fits (operationv.KrAutoneg kr kx) ws h = record { of_actions = omega arith; of_micros = omega arith }
-operation_fits (operationv.NvmWord word) ws h = record { of_actions = omega arith; of_micros = omega arith }
-operation_fits operationv.AfterReset ws h = record { of_actions = omega arith; of_micros = omega arith }
-operation_fits (operationv.Bringup veto) ws h = record { of_actions = omega arith; of_micros = omega arith }
-operation_fits (operationv.Poll w) ws h = record { of_actions = omega arith; of_micros = omega arith }
+pub operation_fits : (port : Port) (what : Operation) (ws : List ℕ) → (request port what ws).words ≤ 16 → Fits what ws
+unfolding request
+operation_fits port operationv.Veto ws h = record { of_actions = omega arith; of_micros = omega arith }
+operation_fits port operationv.Link ws h = record { of_actions = omega arith; of_micros = omega arith }
+operation_fits port (operationv.Acquire mask) ws h = record { of_actions = omega arith; of_micros = omega arith }
+operation_fits port (operationv.Release mask) ws h = record { of_actions = omega arith; of_micros = omega arith }
+operation_fits port operationv.Command ws h = record { of_actions = omega arith; of_micros = omega arith }
+operation_fits port (operationv.Token take) ws h = record { of_actions = omega arith; of_micros = omega arith }
+operation_fits port (operationv.PhyActivity asked) ws h = record { of_actions = omega arith; of_micros = omega arith }
+operation_fits port (operationv.ReadReg phy device register) ws h = record { of_actions = omega arith; of_micros = omega arith }
+operation_fits port (operationv.WriteReg phy device register value) ws h = record { of_actions = omega arith; of_micros = omega arith }
+operation_fits port (operationv.Modify at) ws h = record { of_actions = omega arith; of_micros = omega arith }
+operation_fits port (operationv.Probe phy) ws h = record { of_actions = omega arith; of_micros = omega arith }
+operation_fits port operationv.Scan ws h = record { of_actions = omega arith; of_micros = omega arith }
+operation_fits port (operationv.Reset phy x557) ws h = record { of_actions = omega arith; of_micros = omega arith }
+operation_fits port (operationv.Abilities phy) ws h = record { of_actions = omega arith; of_micros = omega arith }
+operation_fits port (operationv.Advertise asked) ws h = record { of_actions = omega arith; of_micros = omega arith }
+operation_fits port (operationv.AnLink phy) ws h = record { of_actions = omega arith; of_micros = omega arith }
+operation_fits port (operationv.KrRead address) ws h = record { of_actions = omega arith; of_micros = omega arith }
+operation_fits port (operationv.KrWrite address value) ws h = record { of_actions = omega arith; of_micros = omega arith }
+operation_fits port (operationv.KrModify c) ws h = record { of_actions = omega arith; of_micros = omega arith }
+operation_fits port operationv.RestartAn ws h = record { of_actions = omega arith; of_micros = omega arith }
+operation_fits port (operationv.KrAutoneg kr kx) ws h = record { of_actions = omega arith; of_micros = omega arith }
+operation_fits port (operationv.NvmWord word) ws h = record { of_actions = omega arith; of_micros = omega arith }
+operation_fits port operationv.AfterReset ws h = record { of_actions = omega arith; of_micros = omega arith }
+operation_fits port (operationv.Bringup veto) ws h = record { of_actions = omega arith; of_micros = omega arith }
+operation_fits port (operationv.Poll w) ws h = record { of_actions = omega arith; of_micros = omega arith }

@@ -1,4 +1,4 @@
 pub mod Operations
-pub mod Addresses
+pub mod Request
 pub mod Bounds
 pub mod Example

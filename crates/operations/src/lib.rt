@@ -2,10 +2,11 @@
 #![tactic(auto)]
 
 ghost use Rattle.std.specs.Prelude.{◌≡◌};
-ghost use Rattle.operations.specs.Addresses.{addresses, refused};
+ghost use Rattle.operations.specs.Request.{at_port, at_phy, at_kr, request, refused};
 
 use arguments::{Advertised, Asked, Change, Register, Watch};
-use hardware::{Error, Port};
+use hardware::{Error, Port, Request};
+use words::kr_address::krm;
 
 // What the host asks for.
 #[derive(Clone, Copy)]
@@ -16,7 +17,7 @@ pub enum Operation {
     Acquire(u32),
     // mask
     Release(u32),
-    // its words are the host block's
+    // its host block is the words that are lent
     Command,
     // take
     Token(bool),
@@ -52,31 +53,73 @@ pub enum Operation {
     Poll(Watch),
 }
 
+// A request of a port with nothing else that may be turned away.
+fn at_port(port: Port) -> Request
+    ensures { at_port port ≡ result }
+{
+    Request {
+        port,
+        phy: 0,
+        device: 0,
+        kr: 0,
+        selected: 0,
+        words: 0,
+    }
+}
+
+// With a PHY's and an MDIO device's address.
+fn at_phy(port: Port, phy: u32, device: u32) -> Request
+    ensures { at_phy port phy device ≡ result }
+{
+    Request {
+        phy,
+        device,
+        ..at_port(port)
+    }
+}
+
+// With a KR register's address, as it is named and as CTRL is to be given it.
+fn at_kr(port: Port, kr: u32, selected: u32) -> Request
+    ensures { at_kr port kr selected ≡ result }
+{
+    Request {
+        kr,
+        selected,
+        ..at_port(port)
+    }
+}
+
 impl Operation {
-    // The PHY address and the MDIO device address among its arguments, 0 where it has none.
-    #[tactic(auto, unfolding(crate::specs::Addresses::addresses))]
-    fn addresses(self) -> (u32, u32)
-        ensures { addresses self ≡ result }
+    // What a call of `begin` with these lent words asks for.
+    #[tactic(auto, unfolding(crate::specs::Request::request))]
+    pub fn request(self, port: Port, block: &[u32]) -> Request
+        ensures { request port self block.now ≡ result }
     {
         match self {
-            Operation::ReadReg(phy, device, _) => (phy, device),
-            Operation::WriteReg(phy, device, _, _) => (phy, device),
-            Operation::Modify(at) => (at.phy, at.device),
-            Operation::Probe(phy) => (phy, 0),
-            Operation::Reset(phy, _) => (phy, 0),
-            Operation::Abilities(phy) => (phy, 0),
-            Operation::Advertise(asked) => (asked.phy, 0),
-            Operation::AnLink(phy) => (phy, 0),
-            Operation::Poll(watch) => (watch.phy, 0),
-            _ => (0, 0),
+            Operation::Command => Request {
+                words: block.len(),
+                ..at_port(port)
+            },
+            Operation::ReadReg(phy, device, _) => at_phy(port, phy, device),
+            Operation::WriteReg(phy, device, _, _) => at_phy(port, phy, device),
+            Operation::Modify(at) => at_phy(port, at.phy, at.device),
+            Operation::Probe(phy) => at_phy(port, phy, 0),
+            Operation::Reset(phy, _) => at_phy(port, phy, 0),
+            Operation::Abilities(phy) => at_phy(port, phy, 0),
+            Operation::Advertise(asked) => at_phy(port, asked.phy, 0),
+            Operation::AnLink(phy) => at_phy(port, phy, 0),
+            Operation::KrRead(address) => at_kr(port, address, address),
+            Operation::KrWrite(address, _) => at_kr(port, address, address),
+            Operation::KrModify(c) => at_kr(port, c.port0, krm(port.lan, c.port0)),
+            Operation::Poll(watch) => at_phy(port, watch.phy, 0),
+            _ => at_port(port),
         }
     }
 
-    // Whether a call of `begin` with this host block is turned away: 20 to 23.
+    // Whether the call is turned away: 20, 21, 22, 35 or 23.
     pub fn refused(self, port: Port, block: &[u32]) -> Result<(), Error>
         ensures { refused port self block.now ≡ result }
     {
-        let (phy, device) = self.addresses();
-        port.refusal(phy, device, block.len())
+        self.request(port, block).refusal()
     }
 }

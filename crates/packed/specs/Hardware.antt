@@ -23,7 +23,8 @@ words_error errorv.PhyReset = 9 ∷ replicate 4 0
 words_error errorv.Lan = 10 ∷ replicate 4 0
 words_error errorv.Fiber = 11 ∷ replicate 4 0
 words_error errorv.Address = 12 ∷ replicate 4 0
-words_error errorv.Block = 13 ∷ replicate 4 0
+words_error errorv.KrAddress = 13 ∷ replicate 4 0
+words_error errorv.Block = 14 ∷ replicate 4 0
 
 unfoldable pub get_error : List ℕ → Error
 get_error s =
@@ -39,7 +40,8 @@ get_error s =
     pick (eqb (word_at s 0) 10) (errorv.Lan) (
     pick (eqb (word_at s 0) 11) (errorv.Fiber) (
     pick (eqb (word_at s 0) 12) (errorv.Address) (
-    errorv.Block))))))))))))
+    pick (eqb (word_at s 0) 13) (errorv.KrAddress) (
+    errorv.Block)))))))))))))
 
 -- 1 words
 unfoldable pub words_family : Family → List ℕ

@@ -77,8 +77,12 @@ impl Packed for Error {
                 let at = word(tape, at, 12);
                 zeros(tape, at, 4)
             },
-            Error::Block => {
+            Error::KrAddress => {
                 let at = word(tape, at, 13);
+                zeros(tape, at, 4)
+            },
+            Error::Block => {
+                let at = word(tape, at, 14);
                 zeros(tape, at, 4)
             },
         }
@@ -126,6 +130,8 @@ impl Packed for Error {
             Error::Fiber
         } else if kind == 12 {
             Error::Address
+        } else if kind == 13 {
+            Error::KrAddress
         } else {
             Error::Block
         }

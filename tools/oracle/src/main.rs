@@ -24,7 +24,8 @@ use lines::PortLine;
 use operations::Operation;
 use talk::Talk;
 
-/// The number of the refusal, 20 to 23 in this order, where the port or the operation is refused before any action.
+/// The number of the refusal, 20 to 23 in this order, where the port or the operation is refused before any action. The port's 35,
+/// a KR address above ffff, is not there: the Rust sends such an address, and runs beside it leave it out.
 fn refusal(port: &PortLine, operation: &Operation) -> Option<u32> {
     let is_fiber = match port.family {
         Family::X553 => [0x15c4, 0x15ce].contains(&port.device),

@@ -29,6 +29,7 @@ error_length errorv.PhyReset = refl
 error_length errorv.Lan = refl
 error_length errorv.Fiber = refl
 error_length errorv.Address = refl
+error_length errorv.KrAddress = refl
 error_length errorv.Block = refl
 
 pub family_length : (s : Family) → length (words_family s) ≡ 1

@@ -50,6 +50,10 @@ pub returns-in-Address-clause-adds : goal.returns-in-Address-clause-adds
 unfolding words_error
 returns-in-Address-clause-adds c = rw c.in-Address.is (then c.word-at-in-Address.ensures c.zeros-in-Address.ensures)
 
+pub returns-in-KrAddress-clause-adds : goal.returns-in-KrAddress-clause-adds
+unfolding words_error
+returns-in-KrAddress-clause-adds c = rw c.in-KrAddress.is (then c.word-at-in-KrAddress.ensures c.zeros-in-KrAddress.ensures)
+
 pub returns-in-Block-clause-adds : goal.returns-in-Block-clause-adds
 unfolding words_error
 returns-in-Block-clause-adds c = rw c.in-Block.is (then c.word-at-in-Block.ensures c.zeros-in-Block.ensures)

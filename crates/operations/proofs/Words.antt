@@ -1,0 +1,69 @@
+-- The words that are lent: an operation has a use for those that its request counts, and for no other
+use Prim.Native.Nat.{ℕ, ◌≤◌}
+use mathlib.Core.Path.{◌≡◌, refl, ap}
+use mathlib.Core.List.{List}
+use native.Mathlib.Omega.{arith}
+use lib.ListN.{length, take}
+use Rattle.std.proofs.Common.{take_all}
+use Rattle.hardware.specs.declared.Port.{Port}
+use Rattle.operations.specs.Operations.{operation_with}
+use Rattle.operations.specs.Request.{request}
+use Rattle.operations.specs.declared.Operation.{Operation}
+use Rattle.operations.specs.declared.Operation.TheVariants as operationv
+
+pub words_lent : (port : Port) (what : Operation) (ws : List ℕ) → (request port what ws).words ≤ length ws
+unfolding request
+words_lent port operationv.Veto ws = omega arith
+words_lent port operationv.Link ws = omega arith
+words_lent port (operationv.Acquire mask) ws = omega arith
+words_lent port (operationv.Release mask) ws = omega arith
+words_lent port operationv.Command ws = omega arith
+words_lent port (operationv.Token take) ws = omega arith
+words_lent port (operationv.PhyActivity asked) ws = omega arith
+words_lent port (operationv.ReadReg phy device register) ws = omega arith
+words_lent port (operationv.WriteReg phy device register value) ws = omega arith
+words_lent port (operationv.Modify at) ws = omega arith
+words_lent port (operationv.Probe phy) ws = omega arith
+words_lent port operationv.Scan ws = omega arith
+words_lent port (operationv.Reset phy x557) ws = omega arith
+words_lent port (operationv.Abilities phy) ws = omega arith
+words_lent port (operationv.Advertise asked) ws = omega arith
+words_lent port (operationv.AnLink phy) ws = omega arith
+words_lent port (operationv.KrRead address) ws = omega arith
+words_lent port (operationv.KrWrite address value) ws = omega arith
+words_lent port (operationv.KrModify c) ws = omega arith
+words_lent port operationv.RestartAn ws = omega arith
+words_lent port (operationv.KrAutoneg kr kx) ws = omega arith
+words_lent port (operationv.NvmWord word) ws = omega arith
+words_lent port operationv.AfterReset ws = omega arith
+words_lent port (operationv.Bringup veto) ws = omega arith
+words_lent port (operationv.Poll w) ws = omega arith
+
+pub only_words : (pause : ℕ) (port : Port) (what : Operation) (ws : List ℕ)
+    → operation_with pause port what (take (request port what ws).words ws) ≡ operation_with pause port what ws
+unfolding request
+only_words pause port operationv.Veto ws = refl
+only_words pause port operationv.Link ws = refl
+only_words pause port (operationv.Acquire mask) ws = refl
+only_words pause port (operationv.Release mask) ws = refl
+only_words pause port operationv.Command ws = ap (operation_with pause port operationv.Command) (take_all (length ws) ws (omega arith))
+only_words pause port (operationv.Token take) ws = refl
+only_words pause port (operationv.PhyActivity asked) ws = refl
+only_words pause port (operationv.ReadReg phy device register) ws = refl
+only_words pause port (operationv.WriteReg phy device register value) ws = refl
+only_words pause port (operationv.Modify at) ws = refl
+only_words pause port (operationv.Probe phy) ws = refl
+only_words pause port operationv.Scan ws = refl
+only_words pause port (operationv.Reset phy x557) ws = refl
+only_words pause port (operationv.Abilities phy) ws = refl
+only_words pause port (operationv.Advertise asked) ws = refl
+only_words pause port (operationv.AnLink phy) ws = refl
+only_words pause port (operationv.KrRead address) ws = refl
+only_words pause port (operationv.KrWrite address value) ws = refl
+only_words pause port (operationv.KrModify c) ws = refl
+only_words pause port operationv.RestartAn ws = refl
+only_words pause port (operationv.KrAutoneg kr kx) ws = refl
+only_words pause port (operationv.NvmWord word) ws = refl
+only_words pause port operationv.AfterReset ws = refl
+only_words pause port (operationv.Bringup veto) ws = refl
+only_words pause port (operationv.Poll w) ws = refl
