@@ -30,8 +30,8 @@ digit_small b d h = go (between 48 57 b) refl h
 pub one_more : (i v d : ℕ) → v < 10 ^ i → d < 10 → 10 * v + d < 10 ^ (i + 1)
 one_more i v d h k = rw (add-one i, pow-suc 10 i) (omega arith)
 
--- three digits fit
-pub room : (i v d b : ℕ) → v < 10 ^ i → digit b ≡ Some d → i < 3 → 10 * v + d < 2 ^ 32
+-- ten digits fit
+pub room : (i v d b : ℕ) → v < 10 ^ i → digit b ≡ Some d → i < 10 → 10 * v + d < 2 ^ 64
 room i v d b h k l =
-    let top : 10 ^ (i + 1) ≤ 10 ^ 3 = let upto : i + 1 ≤ 3 = omega arith in pow-le-pow_right (zero-lt-suc 9) upto in
+    let top : 10 ^ (i + 1) ≤ 10 ^ 10 = let upto : i + 1 ≤ 10 = omega arith in pow-le-pow_right (zero-lt-suc 9) upto in
     omega (arith, one_more i v d h (digit_small b d k))

@@ -16,6 +16,10 @@ abbrev pub at_most : ℕ → Option ℕ → Option ℕ
 at_most n None = None
 at_most n (Some v) = cond (leb v n) (Some v) None
 
+-- one to ten digits
+unfoldable pub decimal_number : List ℕ → Option ℕ
+decimal_number word = cond (between 1 10 (length word)) (value 0 word) None
+
 -- one to three digits, at most 255
 unfoldable pub decimal_word : List ℕ → Option ℕ
 decimal_word word = cond (between 1 3 (length word)) (at_most 255 (value 0 word)) None

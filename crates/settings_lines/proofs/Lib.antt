@@ -1,0 +1,4 @@
+pub mod LoadLaws
+pub mod Theorems
+pub mod ByteLaws
+pub mod ShownLaws

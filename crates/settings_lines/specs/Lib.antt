@@ -1,0 +1,4 @@
+pub mod Entry
+pub mod Turn
+pub mod Answer
+pub mod Bytes
