@@ -1,5 +1,6 @@
 // A conversation as the caller holds it: plain words, and its host block.
-ghost use Rattle.std.specs.Prelude.{true, ◌≡◌};
+ghost use Rattle.std.specs.Prelude.{true, Some, None, ◌≡◌};
+ghost use Rattle.hardware.specs.Talk.{pick};
 ghost use Rattle.border.specs.Held.{words_of, conversation_of, held_by, is_held};
 
 use conversation::conversation::Conversation;
@@ -59,18 +60,19 @@ pub fn hold(c: Conversation) -> Held
 }
 
 #[tactic(auto, unfolding(crate::specs::Held::held_by))]
-pub fn read_held(h: Held) -> Conversation
+fn read_held(h: Held) -> Conversation
     ensures { result ≡ held_by h }
 {
     get_conversation(&h.words, h.block)
 }
 
-// Whether the words are those of the conversation that they are read as. No others are ever given to the caller.
+// The conversation, where the words are those of the one that they are read as. No others are ever given to the caller.
 #[tactic(auto, using(text::proofs::SameLaws::same_pointwise), unfolding(crate::specs::Held::is_held))]
-pub fn is_held(h: Held) -> bool
-    ensures { is_held h ≡ result }
+pub fn taken(h: Held) -> Option<Conversation>
+    ensures { pick (is_held h) (Some (held_by h)) None ≡ result }
 {
+    let c = read_held(h);
     let mut own = [0u32; 65];
-    put_conversation(&mut own, read_held(h));
-    own == h.words
+    put_conversation(&mut own, c);
+    if own == h.words { Some(c) } else { None }
 }

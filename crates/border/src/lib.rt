@@ -12,7 +12,7 @@ ghost use Rattle.hardware.specs.declared.Misuse.TheVariants.{Unknown};
 ghost use Rattle.border.specs.Border.{stayed, nothing, outcome_of, begins, opens, steps, asks, none, answer, saying, no_answer, answers, answered_of, not_run, runs, ran_of};
 ghost use Rattle.border.specs.Port.{port_of};
 
-use crate::held::{Held, hold, is_held, read_held};
+use crate::held::{Held, hold, taken};
 use crate::port::port_of;
 use answers::Value;
 use answers::fields::{Fields, error_fields, error_number, fields_of};
@@ -133,10 +133,10 @@ fn no_action(number: u32) -> Asked
 pub fn mansruoy_action(c: Held) -> Asked
     ensures { result ≡ asks c }
 {
-    if !is_held(c) {
+    let Some(own) = taken(c) else {
         return no_action(Misuse::NotHeld.number());
-    }
-    match read_held(c).place {
+    };
+    match own.place {
         Step::Done(_) => no_action(Stop::AfterEnd.number()),
         Step::Ask(a, _) => Asked {
             number: 0,
@@ -152,13 +152,13 @@ pub fn mansruoy_action(c: Held) -> Asked
 pub fn mansruoy_step(c: Held, kind: u32, value: u32) -> Stepped
     ensures { outcome_of result.number result.to ≡ steps c kind value }
 {
-    if !is_held(c) {
+    let Some(own) = taken(c) else {
         return Stepped {
             number: Misuse::NotHeld.number(),
             to: c,
         };
-    }
-    let s = read_held(c).step(kind, value);
+    };
+    let s = own.step(kind, value);
     match s.stop.number() {
         0 => Stepped {
             number: 0,
@@ -208,10 +208,9 @@ fn no_answer(number: u32, actions: u64, micros: u64) -> Answered
 pub fn mansruoy_answer(c: Held) -> Answered
     ensures { answered_of result ≡ answers c }
 {
-    if !is_held(c) {
+    let Some(of) = taken(c) else {
         return no_answer(Misuse::NotHeld.number(), 0, 0);
-    }
-    let of = read_held(c);
+    };
     match of.place {
         Step::Ask(_, _) => no_answer(Misuse::NotEnded.number(), of.actions, of.micros),
         Step::Done(ended) => answer_words(ended.answer, of.actions, of.micros),
@@ -235,10 +234,10 @@ fn not_run(number: u32, c: Held, at: usize) -> Ran
 pub fn mansruoy_run(c: Held, replies: &[u32], transcript: &mut [u32], at: usize) -> Ran
     ensures { ran_of result transcript.new ≡ runs c replies.now transcript.old at }
 {
-    if !is_held(c) {
+    let Some(own) = taken(c) else {
         return not_run(Misuse::NotHeld.number(), c, at);
-    }
-    let r = run(read_held(c), replies, transcript, at);
+    };
+    let r = run(own, replies, transcript, at);
     match r.stop {
         Stop::AfterEnd | Stop::BadReply => not_run(r.stop.number(), c, at),
         _ => Ran {
