@@ -22,7 +22,7 @@ use Rattle.console.specs.Opened.{Opened, Listing}
 use Rattle.calls.specs.Conversation.{asked_of}
 use Rattle.conversation.specs.Conversation.{conv_of}
 use Rattle.conversation.specs.declared.conversation.Conversation as code
-use Rattle.streams.specs.Due.{number}
+use Rattle.streams.specs.Due.{number, Due}
 use Rattle.streams.specs.Output.{Prints}
 use Rattle.streams.specs.declared.input.Input.{Input}
 use Rattle.streams.specs.declared.due.Answered.{Answered}
@@ -31,7 +31,7 @@ use Rattle.streams.proofs.OutputLaws.{prints_on, prints_none}
 use Rattle.console.specs.Turn.{ran_three, printed}
 use Rattle.console.specs.Ahead.{ran_from, Ahead}
 use Rattle.console.specs.Ending.{last_text}
-use Rattle.console.specs.Talk.{Due, Acted, Onward, Talks, Turns, Listed}
+use Rattle.console.specs.Talk.{Acted, Onward, Talks, Turns, Listed}
 use Rattle.console.specs.Talk.Onward.{ended, stopped, acted}
 use Rattle.console.specs.Talk.Talks.{begins, goes_on}
 use Rattle.console.specs.declared.ahead.Moved.{Moved}

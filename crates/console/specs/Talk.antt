@@ -4,25 +4,16 @@ use Rattle.std.specs.Option.{unwrap_or}
 use Rattle.hardware.specs.Numbers.{stop_number}
 use Rattle.hardware.specs.declared.Action.{Action}
 use Rattle.hardware.specs.declared.Stop.TheVariants.{AfterEnd}
-use Rattle.drive.specs.Act.{uses}
 use Rattle.calls.specs.Conversation.{Conv, asked_of}
 use Rattle.calls.specs.Run.{left}
 use Rattle.conversation.specs.Conversation.{conv_of}
-use Rattle.streams.specs.Input.{Fetches}
-use Rattle.streams.specs.Due.{number, answered_of}
+use Rattle.streams.specs.Due.{number, Due}
 use Rattle.streams.specs.declared.input.Input.{Input}
-use Rattle.streams.specs.declared.input.Fetched.{Fetched}
-use Rattle.streams.specs.declared.due.Answered.{Answered}
 use Rattle.streams.specs.declared.due.Fault.{Fault}
 use Rattle.console.specs.Turn.{ran_three, printed}
 use Rattle.console.specs.Ahead.{ran_from, Ahead}
 use Rattle.console.specs.Ending.{last_text}
 use Rattle.console.specs.declared.ahead.Moved.{Moved}
-
--- what a pending action is answered: nothing for a wait, else what the next line says, which may be read for it
-pub record Due (a : Action) (old : List ℕ) (i : Input) (new : List ℕ) (r : Answered) : Type 0 where
-  pub none : uses a ≡ 0 → (r ≡ record { due = Ok None; input = i }) × (new ≡ old)
-  pub due : (uses a ≡ 0 → ⊥) → (f : Fetched) × (Fetches old i new f) × (r ≡ answered_of new f)
 
 -- one action is done with a reply's two words
 pub record Acted (c : Conv) (pair : ℕ × ℕ) (i : Input) (m : Moved) : Type 0 where

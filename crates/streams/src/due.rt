@@ -1,9 +1,6 @@
 // The reply to a pending action, read when it is due.
-ghost use Rattle.std.specs.Prelude.{◌≡◌, Ok, None};
-ghost use Rattle.drive.specs.Act.{uses};
-ghost use Rattle.streams.specs.Due.{number, due_of, answered_of};
-ghost use Rattle.streams.specs.Input.{Fetches};
-ghost use Rattle.streams.specs.declared.input.Fetched.{Fetched};
+ghost use Rattle.std.specs.Prelude.{◌≡◌};
+ghost use Rattle.streams.specs.Due.{number, due_of, Due};
 
 use crate::input::{Fetched, Input, Next, fetch};
 use crate::part::part;
@@ -51,8 +48,7 @@ fn read_reply(buf: &[u8], next: Next) -> Result<(u32, u32), Fault>
 
 // A reply line is read only when its reply is due.
 pub fn answer<R: Read>(a: Action, source: &mut R, buf: &mut [u8], input: Input) -> Answered
-    ensures none { uses a ≡ 0 → (result ≡ record { due = Ok None; input = input }) × (buf.new ≡ buf.old) }
-    ensures due { (uses a ≡ 0 → ⊥) → (f : Fetched) × (Fetches buf.old input buf.new f) × (result ≡ answered_of buf.new f) }
+    ensures { Due a buf.old input buf.new result }
 {
     if uses_of(a) == 0 {
         return Answered {
