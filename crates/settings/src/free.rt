@@ -1,5 +1,5 @@
 // The first record that is in neither chain.
-ghost use Rattle.std.specs.Prelude.{ℕ, ◌≡◌, ◌≤◌, ◌<◌, ◌+◌, ◌^◌, ◌||◌, eqb, not, min, length};
+ghost use Rattle.std.specs.Prelude.{ℕ, ◌≡◌, ◌<◌, ◌+◌, ◌^◌, ◌||◌, eqb, not, min};
 ghost use Rattle.settings.specs.Records.{records, chain_from};
 ghost use Rattle.settings.specs.Whole.{has};
 ghost use Rattle.settings.specs.Calls.{is_free, first, free};
@@ -45,13 +45,12 @@ fn unmarked(marks: &Marks, count: usize) -> Option<usize>
 }
 
 fn free_from(words: &[u32], base: usize, count: usize) -> Option<usize>
-    requires heads { 8 ≤ length words.now }
-    requires fits { base + count < 2 ^ 64 }
+    requires { base + count < 2 ^ 64 }
     ensures { first (is_free words.now) base (min count 65536) ≡ result }
 {
     let mut marks = Marks::new();
-    mark(words, words[0], base, &mut marks);
-    mark(words, words[1], base, &mut marks);
+    mark(words, word(words, 0), base, &mut marks);
+    mark(words, word(words, 1), base, &mut marks);
     match unmarked(&marks, count) {
         Some(place) => Some(base + place),
         None => None,
@@ -60,7 +59,6 @@ fn free_from(words: &[u32], base: usize, count: usize) -> Option<usize>
 
 // One pass over the chains for 65,536 records: in a larger store there may be none free among the first.
 pub fn free(words: &[u32]) -> Option<u32>
-    requires { 8 ≤ length words.now }
     ensures { free words.now ≡ result }
 {
     let end = (words.len() / RECORD).min(1 << 32);

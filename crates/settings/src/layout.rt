@@ -1,6 +1,6 @@
 // The words of a store: eight to a record. Record 0 has the heads of the two chains.
-ghost use Rattle.std.specs.Prelude.{◌≡◌, ◌≤◌, ◌<◌, ◌+◌, ◌*◌, length};
-ghost use Rattle.settings.specs.Records.{word, records, setting};
+ghost use Rattle.std.specs.Prelude.{◌≡◌, ◌≤◌, ◌+◌, length};
+ghost use Rattle.settings.specs.Records.{word, setting};
 ghost use Rattle.settings.specs.Whole.{zeros, is_pause, is_good, has_form};
 
 use crate::setting::Setting;
@@ -64,13 +64,12 @@ pub fn has_form(words: &[u32]) -> bool
 
 // What a record has set.
 pub fn setting_of(words: &[u32], index: u32) -> Setting
-    requires { index < records words.now }
     ensures { setting words.now index ≡ result }
 {
     let at = RECORD * index as usize;
     Setting {
-        version: words[at + VERSION],
-        pause: words[at + PAUSE],
-        veto: words[at + VETO] == 1,
+        version: word(words, at + VERSION),
+        pause: word(words, at + PAUSE),
+        veto: word(words, at + VETO) == 1,
     }
 }

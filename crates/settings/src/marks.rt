@@ -16,17 +16,22 @@ impl Marks {
         Marks { words: [0; 2048] }
     }
 
+    // A mark at a place; there is none at or behind the 65,536th.
     pub fn set(&mut self, place: usize)
-        requires { place < 65536 }
-        ensures { (k : ℕ) → is_marked self.new.words k ≡ (eqb place k || is_marked self.old.words k) }
+        ensures { (k : ℕ) → k < 65536 → is_marked self.new.words k ≡ (eqb place k || is_marked self.old.words k) }
     {
-        self.words[place / 32] |= 1 << (place % 32);
+        if place < MARKS {
+            self.words[place / 32] |= 1 << (place % 32);
+        }
     }
 
     pub fn has(&self, place: usize) -> bool
-        requires { place < 65536 }
         ensures { is_marked self.now.words place ≡ result }
     {
-        self.words[place / 32] >> (place % 32) & 1 == 1
+        if place < MARKS {
+            self.words[place / 32] >> (place % 32) & 1 == 1
+        } else {
+            false
+        }
     }
 }

@@ -1,27 +1,24 @@
 // The calls on a store, lent as words, eight to a record.
-ghost use Rattle.std.specs.Prelude.{◌≡◌, ◌≤◌, ◌<◌, true};
+ghost use Rattle.std.specs.Prelude.{◌≡◌, ◌≤◌, ◌<◌};
 ghost use Rattle.settings.specs.Records.{records};
-ghost use Rattle.settings.specs.Whole.{is_whole};
 ghost use Rattle.settings.specs.Calls.{next_version, put, newest, named, store};
 ghost use Rattle.settings.specs.Walk.{port, in_range, walked_or_damaged};
 
 use crate::fault::Fault;
 use crate::free::free;
-use crate::layout::{RECORD, VERSION, is_pause, setting_of};
+use crate::layout::{RECORD, VERSION, is_pause, setting_of, word};
 use crate::setting::Setting;
 use crate::walk::{Both, walks};
 
 // One above the head's, 1 in an empty chain; none behind the last that fits in a word.
 fn next_version(words: &[u32], lan: u32) -> Option<u32>
-    requires port { lan ≤ 1 }
-    requires whole { is_whole words.now ≡ true }
     ensures { next_version words.now lan ≡ result }
 {
-    let head = words[lan as usize];
+    let head = word(words, lan as usize);
     if head == 0 {
         return Some(1);
     }
-    words[RECORD * head as usize + VERSION].checked_add(1)
+    word(words, RECORD * head as usize + VERSION).checked_add(1)
 }
 
 // The record first, then the head that leads to it.
@@ -87,7 +84,7 @@ pub fn newest(words: &[u32], lan: u32) -> Result<Option<Setting>, Fault>
 {
     port(lan)?;
     walked(words, 0)?;
-    let head = words[lan as usize];
+    let head = word(words, lan as usize);
     if head == 0 {
         return Ok(None);
     }

@@ -1,5 +1,5 @@
 // A store in a file. It is read once; each new state is a new file, renamed over the old one.
-ghost use Rattle.std.specs.Prelude.{◌≤◌, length, IfOk};
+ghost use Rattle.std.specs.Prelude.{◌≤◌, ◌≡◌, ◌++◌, length, codes, IfOk, string_bytes};
 
 use settings_lines::bytes::{Unfit, read_words, write_words};
 use settings_lines::kept::Kept;
@@ -29,8 +29,10 @@ fn read_full<R: Read>(source: &mut R, buf: &mut [u8]) -> io::Result<usize>
     Ok(len)
 }
 
-// A store is at most 32,768 bytes: one more is read, so that a longer file shows.
-pub fn read_store<F: Files>(files: &F, path: &str) -> io::Result<Kept> {
+// A store is at most 32,768 bytes: one more is read, so that a longer file shows. What a file has, no contract can say.
+pub fn read_store<F: Files>(files: &F, path: &str) -> io::Result<Kept>
+    ensures { IfOk result (λ words. length words ≤ 8192) }
+{
     let mut buf = [0u8; 32769];
     let mut file = fs::open(files, path)?;
     let len = read_full(&mut file, &mut buf)?;
@@ -59,7 +61,10 @@ pub struct OnDisk<'a, F: Files> {
 
 impl<'a, F: Files + AllocGlobal> OnDisk<'a, F> {
     // The new file stands beside the old one until it takes its name.
-    pub fn new(files: &'a F, path: String) -> io::Result<OnDisk<'a, F>> {
+    pub fn new(files: &'a F, path: String) -> io::Result<OnDisk<'a, F>>
+        ensures path { IfOk result (λ store. string_bytes store.path ≡ string_bytes path) }
+        ensures new { IfOk result (λ store. string_bytes store.new ≡ string_bytes path ++ codes ".new") }
+    {
         let new = format!(in files.alloc(); "{path}.new")?;
         Ok(OnDisk { files, path, new })
     }

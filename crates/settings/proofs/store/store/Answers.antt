@@ -1,11 +1,6 @@
 use Rattle.std.proofs.Common.{◌∙◌}
-use Rattle.settings.proofs.Parts.{parts, walked_ok, free_inside}
+use Rattle.settings.proofs.Parts.{free_inside}
 use Rattle.settings.proofs.store.store.Goals as goal
-
-pub free-requires : goal.free-requires
-free-requires c =
-    let found = walked_ok c.args.words.now 0 c.walked.ensures c.in_ok-walked.was in
-    let p = parts c.args.words.now found.whole in p.long
 
 pub put-requires-clause-above : goal.put-requires-clause-above
 put-requires-clause-above c = let inside = free_inside c.args.words.now {i = c.in-Some-free.index} (c.free.ensures ∙ c.in-Some-free.is) in inside.0
