@@ -45,10 +45,12 @@ static void chip_write(uint32_t reg, uint32_t value)
 
 /* ---- The host ---- */
 
+enum { PAUSE = 10 }; /* microseconds between two reads of a busy sideband: what this board's needs */
+
 /* One operation from its beginning to its end. */
 static mansruoy_answered operate(const char *name, const uint32_t *arguments, size_t count)
 {
-    mansruoy_stepped s = mansruoy_begin(552, 0x15ad, 0, name, strlen(name), arguments, count);
+    mansruoy_stepped s = mansruoy_begin(552, 0x15ad, 0, PAUSE, name, strlen(name), arguments, count);
     while (s.number == 0) {
         mansruoy_asked a = mansruoy_action(s.to);
         uint32_t value = 0;

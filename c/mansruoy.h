@@ -4,15 +4,15 @@
  * and hands back a reply, and at the end there is an answer. The host holds the conversation as plain words, by value:
  * copy it, keep it, pass it back as it was given. Nothing is kept inside, so any number of conversations may run side by side.
  *
- *     mansruoy_stepped s = mansruoy_begin(552, 0x15ad, 0, "kr_read", 7, &address, 1);
+ *     mansruoy_stepped s = mansruoy_begin(552, 0x15ad, 0, 10, "kr_read", 7, &address, 1);
  *     for (mansruoy_asked a; s.number == 0 && (a = mansruoy_action(s.to)).number == 0;)
  *         s = mansruoy_step(s.to, 0, done_by_host(a));
  *     mansruoy_answered r = mansruoy_answer(s.to);
  *
  * Numbers of a call: 0 it went well; 20 lan above 1, 21 a fiber device, 22 a PHY or device address above 31, 35 a KR address
- * above 0xffff, 23 a host block above 16 words; 24 the conversation has ended; 25 a reply's kind above 1, or in a run an odd
- * number of reply words; 26 no reply left, 27 no room for three words (both stop a run, which goes on from what it gives back);
- * 100 no such family, device or operation, or arguments that are not the operation's; 101 words that are no conversation; 102 it
+ * above 0xffff, 23 a host block above 16 words, 32 a pause of 0 or above 100; 24 the conversation has ended; 25 a reply's kind above
+ * 1, or in a run an odd number of reply words; 26 no reply left, 27 no room for three words (both stop a run, which goes on from what
+ * it gives back); 100 no such family, device or operation, or arguments that are not the operation's; 101 words that are no conversation; 102 it
  * has not ended. A call that is turned away changes nothing.
  *
  * No pointer may be null, also where its length is 0, and the two buffers of a run do not overlap.
@@ -25,7 +25,7 @@
 #include <stdint.h>
 
 typedef struct {
-    uint32_t words[65]; /* what they mean may change; words that are no conversation's are refused */
+    uint32_t words[66]; /* what they mean may change; words that are no conversation's are refused */
     uint32_t block[16]; /* the host block of a `command`; at its end, with the words of its reply that were read */
 } mansruoy_conversation;
 
@@ -55,11 +55,12 @@ typedef struct {
     size_t at, used;
 } mansruoy_ran;
 
-/* Begins an operation. Family 552 or 553. Name and arguments are those of the tracer's second line: for example "kr_read" with
+/* Begins an operation. Family 552 or 553. Pause: the microseconds between two reads of a busy sideband, 1 to 100; 10 is the Rust's,
+ * and every call of `begin` may have another. Name and arguments are those of the tracer's second line: for example "kr_read" with
  * the address, "bringup" with veto (0 or 1), "poll" with phy, internal (0 iXFI, 1 KR), forced (0, or 1 and the status), reforced.
  * docs/OPERATIONS.md has the arguments, the answer's words and the errors of each. */
-mansruoy_stepped mansruoy_begin(uint32_t family, uint32_t device, uint32_t lan, const char *name, size_t name_len,
-                                const uint32_t *arguments, size_t arguments_len);
+mansruoy_stepped mansruoy_begin(uint32_t family, uint32_t device, uint32_t lan, uint32_t pause, const char *name,
+                                size_t name_len, const uint32_t *arguments, size_t arguments_len);
 
 /* The action that is due. */
 mansruoy_asked mansruoy_action(mansruoy_conversation c);

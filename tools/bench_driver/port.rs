@@ -2,10 +2,13 @@
 use crate::hw::{x552, Family, Port};
 use crate::jobs::{Given, What};
 
+/// The Rust's.
+const PAUSE: u32 = 10;
+
 #[repr(C)]
 #[derive(Clone, Copy)]
 struct Conversation {
-    words: [u32; 65],
+    words: [u32; 66],
     block: [u32; 16],
 }
 
@@ -42,7 +45,7 @@ struct CRan {
 }
 
 extern "C" {
-    fn mansruoy_begin(family: u32, device: u32, lan: u32, name: *const u8, name_len: usize, arguments: *const u32,
+    fn mansruoy_begin(family: u32, device: u32, lan: u32, pause: u32, name: *const u8, name_len: usize, arguments: *const u32,
         arguments_len: usize) -> Stepped;
     fn mansruoy_action(c: Conversation) -> Asked;
     fn mansruoy_step(c: Conversation, kind: u32, value: u32) -> Stepped;
@@ -78,7 +81,7 @@ fn begin(port: Port, what: What) -> Conversation {
     };
     let family = if port.family == Family::X553 { 553 } else { 552 };
     let s = unsafe {
-        mansruoy_begin(family, port.device as u32, port.lan as u32, name.as_ptr(), name.len(), arguments.as_ptr(), arguments.len())
+        mansruoy_begin(family, port.device as u32, port.lan as u32, PAUSE, name.as_ptr(), name.len(), arguments.as_ptr(), arguments.len())
     };
     assert_eq!(s.number, 0, "begin");
     s.to

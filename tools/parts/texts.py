@@ -77,6 +77,9 @@ def first_lines(family, device, lan):
     for bad in ('00', '01', '00000000', '00000001', '000000001', '000000000', '2', '02', '10', 'a', 'F', '1f', '100', '101',
                 '10001', '80000000', 'ffffffff', 'FFFFFFFE', '100000000', 'g', '-1', '+1', '0x1', '1.', '1 0'):
         yield line('port', family, device, bad)
+    for bad in ('0', '1', '2', '40', '100', '101', '00', '010', '0000000040', '00000000040', '4294967295', '4294967296', '9999999999',
+                '10000000000', 'a', '1a', '-1', '+1', '0x10', '1.', '10 10', '10 x', '\xb2', '1,0'):
+        yield line('port', family, device, lan, bad)
     for form in FORMS:
         yield form(line('port', family, device, lan))
 
@@ -121,7 +124,7 @@ def shown(piece):
 def port_of(text):
     """Family and device id of an input; `other` where its first line has none."""
     words = pieces(text)[0].decode('latin-1').split() if text else []
-    return (words[1], words[2].lower()) if len(words) == 4 and words[1] in ('X552', 'X553') else ('other', '')
+    return (words[1], words[2].lower()) if len(words) in (4, 5) and words[1] in ('X552', 'X553') else ('other', '')
 
 
 def can_be_stored(text):

@@ -15,7 +15,7 @@ use Rattle.reference.specs.X552.{kr_read, kr_write, kr_write_body, nvm_word}
 use Rattle.mdio.specs.declared.mdio.Wanted.TheVariants as wanted
 use Rattle.sideband.specs.declared.kr_access.KrWanted.TheVariants as kr
 use Rattle.jobs.specs.Job.{no_word, zero_of}
-use Rattle.access.specs.Body.{under_talk}
+use Rattle.access.specs.Body.{kr_call, under_talk}
 use Rattle.access.specs.declared.body.Held.TheVariants as held
 
 -- nothing or 0 for a body that gives no word
@@ -51,13 +51,13 @@ module _ (port : Port) where
   unfolding write_reg
   write_begun phy dev reg v = zero_begun port (mask port) (write_body (address phy dev reg) v)
 
-  pub kr_read_begun : (a : ℕ) → keep (kr_read 10 port a) [] ≡ under_talk port 6 (held.Kr (kr.Read a))
+  pub kr_read_begun : (a : ℕ) → keep (kr_read port.pause port a) [] ≡ under_talk port 6 (held.Kr (kr_call port (kr.Read a)))
   unfolding kr_read
   kr_read_begun a = refl
 
-  pub kr_write_begun : (a v : ℕ) → no_word (kr_write 10 port a v) ≡ under_talk port 6 (held.Kr (kr.Write a v))
+  pub kr_write_begun : (a v : ℕ) → no_word (kr_write port.pause port a v) ≡ under_talk port 6 (held.Kr (kr_call port (kr.Write a v)))
   unfolding kr_write
-  kr_write_begun a v = zero_begun port 6 (kr_write_body 10 a v)
+  kr_write_begun a v = zero_begun port 6 (kr_write_body port.pause a v)
 
   pub nvm_begun : (word : ℕ) → keep (nvm_word port word) [] ≡ under_talk port 0x401 (held.Nvm word)
   unfolding nvm_word

@@ -7,7 +7,8 @@ ghost use Rattle.reference.specs.Mdio.{mask};
 ghost use Rattle.jobs.specs.Job.{job_talk, no_word};
 ghost use Rattle.jobs.specs.declared.job.Job.TheVariants as jobv;
 ghost use Rattle.access.specs.Access.{resume_access, told_access};
-ghost use Rattle.access.specs.Body.{under_talk};
+ghost use Rattle.access.specs.Body.{kr_call, under_talk};
+ghost use Rattle.access.specs.declared.body.Held.TheVariants as held;
 
 use crate::body::Held;
 use crate::frame::Frame;
@@ -16,7 +17,7 @@ use drive::machine::Machine;
 use hardware::{Action, Error, Family, Port, Reply, Step, checked, done};
 use jobs::job::{Ended, Job};
 use mdio::mdio::Wanted;
-use sideband::kr_access::KrWanted;
+use sideband::kr_access::{KrCall, KrWanted};
 use words::msca::address;
 use words::semaphore::Bits;
 
@@ -64,6 +65,17 @@ impl Begun {
         under.command(CommandFor::Job(words))
     }
 
+    // An access of the sideband, with the port's pause.
+    fn kr(port: Port, wanted: KrWanted, block: &mut [u32; 16]) -> Begun
+        ensures { under_talk port 6 (held.Kr (kr_call port wanted)) ≡ ask result.action (λ x. resume_access result.access block.new x) }
+    {
+        let call = KrCall {
+            pause: port.pause,
+            wanted,
+        };
+        Begun::under(port, Begun::KR_LOCK, Held::Kr(call), block)
+    }
+
     // An action by itself.
     fn alone(port: Port, action: Action, place: AccessPlace) -> Begun
         ensures { action ≡ result.action × place ≡ result.access.place }
@@ -102,11 +114,11 @@ impl Begun {
             }
             Job::KrRead(address) => {
                 let wanted = KrWanted::Read(address);
-                Begun::under(port, Begun::KR_LOCK, Held::Kr(wanted), block)
+                Begun::kr(port, wanted, block)
             }
             Job::KrWrite(address, value) => {
                 let wanted = KrWanted::Write(address, value);
-                Begun::under(port, Begun::KR_LOCK, Held::Kr(wanted), block)
+                Begun::kr(port, wanted, block)
             }
             Job::NvmWord(word) => Begun::under(port, Begun::NVM_LOCK, Held::Nvm(word), block),
         }

@@ -8,15 +8,14 @@ ghost use Rattle.access.specs.Body.{held_talk, resume_body, told_body};
 use drive::machine::Machine;
 use hardware::{Action, Error, Reply, Step};
 use mdio::mdio::{Mdio, Wanted};
-use sideband::idle::Idle;
-use sideband::kr_access::{Kr, KrCall, KrWanted};
+use sideband::kr_access::{Kr, KrCall};
 use sideband::nvm::Nvm;
 
 // What the lock is for, with the Rust's arguments.
 #[derive(Clone, Copy)]
 pub enum Held {
     Mdio(Wanted),
-    Kr(KrWanted),
+    Kr(KrCall),
     // nvm_word
     Nvm(u16),
 }
@@ -25,7 +24,7 @@ pub enum Held {
 #[derive(Clone, Copy)]
 pub enum Body {
     Mdio(Wanted, Mdio),
-    Kr(KrWanted, Kr),
+    Kr(KrCall, Kr),
     Nvm(Nvm),
 }
 
@@ -43,13 +42,13 @@ impl Body {
     }
 
     pub fn kr(
-        wanted: KrWanted,
+        call: KrCall,
         step: Step<Action, Kr, Result<u32, Error>>,
     ) -> Step<Action, Body, Result<u32, Error>>
-        ensures { (b : List ℕ) → told_body b result ≡ told_kr 10 wanted step }
+        ensures { (b : List ℕ) → told_body b result ≡ told_kr call.pause call.wanted step }
     {
         match step {
-            Step::Ask(a, s) => Step::Ask(a, Body::Kr(wanted, s)),
+            Step::Ask(a, s) => Step::Ask(a, Body::Kr(call, s)),
             Step::Done(r) => Step::Done(r),
         }
     }
@@ -68,13 +67,7 @@ impl Body {
     {
         match held {
             Held::Mdio(wanted) => Body::mdio(wanted, Mdio::start(wanted)),
-            Held::Kr(wanted) => {
-                let call = KrCall {
-                    pause: Idle::PAUSE,
-                    wanted,
-                };
-                Body::kr(wanted, Kr::start(call))
-            }
+            Held::Kr(call) => Body::kr(call, Kr::start(call)),
             Held::Nvm(word) => {
                 let step = Nvm::start(word, block);
                 Body::nvm(step)
@@ -87,13 +80,7 @@ impl Body {
     {
         match self {
             Body::Mdio(wanted, s) => Body::mdio(wanted, s.next(wanted, reply)),
-            Body::Kr(wanted, s) => {
-                let call = KrCall {
-                    pause: Idle::PAUSE,
-                    wanted,
-                };
-                Body::kr(wanted, s.next(call, reply))
-            }
+            Body::Kr(call, s) => Body::kr(call, s.next(call, reply)),
             Body::Nvm(s) => Body::nvm(s.next(block, reply)),
         }
     }

@@ -75,3 +75,4 @@ values_fit errorv.Fiber = refl
 values_fit errorv.Address = refl
 values_fit errorv.KrAddress = refl
 values_fit errorv.Block = refl
+values_fit errorv.Pause = refl

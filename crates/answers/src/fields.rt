@@ -231,7 +231,8 @@ impl Fields {
             | Error::Fiber
             | Error::Address
             | Error::KrAddress
-            | Error::Block => self,
+            | Error::Block
+            | Error::Pause => self,
         }
     }
 }
@@ -309,5 +310,6 @@ pub fn error_number(e: Error) -> u32
         Error::Address => 22,
         Error::KrAddress => 35,
         Error::Block => 23,
+        Error::Pause => 32,
     }
 }

@@ -35,7 +35,7 @@ outcome_of n h = pick (eqb n 0) (pick (is_held h) (went (conv_of (held_by h))) (
 
 -- words that are no conversation
 abbrev pub nothing : Held
-nothing = record { words = replicate 65 0; block = replicate 16 0 }
+nothing = record { words = replicate 66 0; block = replicate 16 0 }
 
 -- the number of a call that is turned away, or the conversation begun
 abbrev pub opened : Res (Unit {0}) → Conv → Outcome

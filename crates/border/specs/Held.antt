@@ -7,10 +7,10 @@ use Rattle.conversation.specs.declared.conversation.Conversation.{Conversation}
 use Rattle.packed.specs.Started.{words_place, get_place}
 use Rattle.border.specs.declared.held.Held.{Held}
 
--- 65 words: the port's device and lan, the two counts, its family, and where it stands
+-- 66 words: the port's device, lan and pause, the two counts, its family, and where it stands
 unfoldable pub words_of : Conversation → List ℕ
 words_of c =
-    c.port.device ∷ c.port.lan
+    c.port.device ∷ c.port.lan ∷ c.port.pause
     ∷ (c.actions % 4294967296) ∷ (c.actions / 4294967296)
     ∷ (c.micros % 4294967296) ∷ (c.micros / 4294967296)
     ∷ (words_family c.port.family ++ words_place c.place)
@@ -18,11 +18,11 @@ words_of c =
 unfoldable pub conversation_of : List ℕ → List ℕ → Conversation
 conversation_of ws block =
     record {
-      port = record { family = get_family (drop 6 ws); device = word_at ws 0 % 65536; lan = word_at ws 1 };
-      place = get_place (drop 7 ws);
+      port = record { family = get_family (drop 7 ws); device = word_at ws 0 % 65536; lan = word_at ws 1; pause = word_at ws 2 };
+      place = get_place (drop 8 ws);
       block = block;
-      actions = joined (word_at ws 2) (word_at ws 3);
-      micros = joined (word_at ws 4) (word_at ws 5);
+      actions = joined (word_at ws 3) (word_at ws 4);
+      micros = joined (word_at ws 5) (word_at ws 6);
     }
 
 unfoldable pub held_by : Held → Conversation

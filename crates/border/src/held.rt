@@ -13,18 +13,19 @@ use packed::tape::{long, wide, word};
 #[repr(C)]
 #[derive(Clone, Copy)]
 pub struct Held {
-    pub words: [u32; 65],
+    pub words: [u32; 66],
     pub block: [u32; 16],
 }
 
 // All words of a conversation.
 #[tactic(auto, unfolding(crate::specs::Held::words_of, crate::specs::Held::conversation_of, packed::specs::Tape::word_at))]
-fn put_conversation(tape: &mut [u32; 65], c: Conversation)
+fn put_conversation(tape: &mut [u32; 66], c: Conversation)
     ensures written { tape.new ≡ words_of c }
     ensures back { conversation_of (words_of c) c.block ≡ c }
 {
     let at = word(tape, 0, wide(c.port.device));
     let at = word(tape, at, c.port.lan);
+    let at = word(tape, at, c.port.pause);
     let at = long(tape, at, c.actions as usize);
     let at = long(tape, at, c.micros as usize);
     let at = c.port.family.put(tape, at);
@@ -37,14 +38,15 @@ fn get_conversation(words: &[u32], block: [u32; 16]) -> Conversation
 {
     Conversation {
         port: Port {
-            family: Family::get(words, 6),
+            family: Family::get(words, 7),
             device: half(word_at(words, 0, 0)),
             lan: word_at(words, 0, 1),
+            pause: word_at(words, 0, 2),
         },
-        place: Step::get(words, 7),
+        place: Step::get(words, 8),
         block,
-        actions: joined(word_at(words, 0, 2), word_at(words, 0, 3)) as u64,
-        micros: joined(word_at(words, 0, 4), word_at(words, 0, 5)) as u64,
+        actions: joined(word_at(words, 0, 3), word_at(words, 0, 4)) as u64,
+        micros: joined(word_at(words, 0, 5), word_at(words, 0, 6)) as u64,
     }
 }
 
@@ -53,7 +55,7 @@ pub fn hold(c: Conversation) -> Held
     ensures read_back { held_by result ≡ c }
     ensures held { is_held result ≡ true }
 {
-    let mut words = [0u32; 65];
+    let mut words = [0u32; 66];
     put_conversation(&mut words, c);
     let block = c.block;
     Held { words, block }
@@ -72,7 +74,7 @@ pub fn taken(h: Held) -> Option<Conversation>
     ensures { pick (is_held h) (Some (held_by h)) None ≡ result }
 {
     let c = read_held(h);
-    let mut own = [0u32; 65];
+    let mut own = [0u32; 66];
     put_conversation(&mut own, c);
     if own == h.words { Some(c) } else { None }
 }

@@ -65,7 +65,7 @@ pub struct Ran {
 
 // Words that are no conversation, for a call that begins none.
 const NOTHING: Held = Held {
-    words: [0; 65],
+    words: [0; 66],
     block: [0; 16],
 };
 
@@ -105,10 +105,17 @@ fn none_begun() -> Stepped
 }
 
 // Begins the operation of this name, with the arguments of the tracer's second line.
-pub fn mansruoy_begin(family: u32, device: u32, lan: u32, name: &[u8], arguments: &[u32]) -> Stepped
-    ensures { outcome_of result.number result.to ≡ begins (port_of family device lan) (by_name name.now arguments.now) arguments.now }
+pub fn mansruoy_begin(
+    family: u32,
+    device: u32,
+    lan: u32,
+    pause: u32,
+    name: &[u8],
+    arguments: &[u32],
+) -> Stepped
+    ensures { outcome_of result.number result.to ≡ begins (port_of family device lan pause) (by_name name.now arguments.now) arguments.now }
 {
-    let Some(port) = port_of(family, device, lan) else {
+    let Some(port) = port_of(family, device, lan, pause) else {
         return none_begun();
     };
     let Some((what, n)) = named(name, arguments) else {

@@ -14,12 +14,13 @@ pub extern "C" fn mansruoy_begin(
     family: u32,
     device: u32,
     lan: u32,
+    pause: u32,
     name: &[u8],
     arguments: &[u32],
 ) -> Stepped
-    ensures { outcome_of result.number result.to ≡ begins (port_of family device lan) (by_name name.now arguments.now) arguments.now }
+    ensures { outcome_of result.number result.to ≡ begins (port_of family device lan pause) (by_name name.now arguments.now) arguments.now }
 {
-    border::mansruoy_begin(family, device, lan, name, arguments)
+    border::mansruoy_begin(family, device, lan, pause, name, arguments)
 }
 
 #[unsafe(no_mangle)]

@@ -27,7 +27,7 @@ vetoed_then false s f k =
 -- x553.rs's setup of a backplane port, with the call's answer in its choices
 module _ (port : Port) (veto kr : Bool) where
   abbrev pub tuned : Call ℕ
-  tuned = kr_autoneg 10 port kr true
+  tuned = kr_autoneg port.pause port kr true
 
   abbrev pub free : Call Setup553
   free = vetoed veto (return setup553.ManageabilityVeto) (tuned >>= λ lc1. return (setup553.Kr lc1))
@@ -68,6 +68,6 @@ module _ (after : Call Value) where
   speeds false false = refl
 
 module _ (managed : Managed) (x553 : managed.port.family ≡ X553) where
-  pub bringup_clocked : bringup 10 managed.port managed.veto ≡ clock_first (speed_of managed.port) (devices_of managed managed.port.family)
+  pub bringup_clocked : bringup managed.port.pause managed.port managed.veto ≡ clock_first (speed_of managed.port) (devices_of managed managed.port.family)
   unfolding bringup
   bringup_clocked = simp x553 (sym (speeds (devices_of managed X553) (slow_device managed.port.device) (firmware_phy managed.port.device)))

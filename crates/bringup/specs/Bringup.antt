@@ -53,8 +53,8 @@ abbrev pub answer553 : Call Setup553 → Call Value
 answer553 t = t >>= λ s. return (value.X553 s)
 
 abbrev pub lane_talk : Port → Lane → Call Value
-lane_talk port (lane.Kr kr) = kr_then port (kr_autoneg 10 port kr true)
-lane_talk port lane.Sgmii = answer553 (sgmii 10 port)
+lane_talk port (lane.Kr kr) = kr_then port (kr_autoneg port.pause port kr true)
+lane_talk port lane.Sgmii = answer553 (sgmii port.pause port)
 
 abbrev pub vetoed_talk : Managed → Lane → Call Value
 vetoed_talk managed l = vetoed managed.veto (return (veto_value managed.port.family)) (lane_talk managed.port l)
@@ -70,15 +70,15 @@ abbrev pub link_then : Port → Call CopperSetup → Call Value
 link_then port t = t >>= λ s. return (copper_value port.family s)
 
 abbrev pub copper_then : Managed → Call X557 → Call Value
-copper_then managed t = t >>= λ x. link_then managed.port (copper_link 10 managed.port managed.veto x)
+copper_then managed t = t >>= λ x. link_then managed.port (copper_link managed.port.pause managed.port managed.veto x)
 
 abbrev pub firmware_then : Managed → Call x553.Prepared → Call Value
-firmware_then managed t = t >>= λ p. answer553 (setup_prepared 10 managed.port managed.veto p)
+firmware_then managed t = t >>= λ p. answer553 (setup_prepared managed.port.pause managed.port managed.veto p)
 
 -- the Rust's prepare and setup, on the X553 after `set_mdio_speed`
 abbrev pub devices_of : Managed → Family → Call Value
-devices_of managed X552 = x552.prepare_then managed.port managed.veto (bringup552 10 managed.port managed.veto)
-devices_of managed X553 = prepare_device managed.port managed.veto (bringup553 10 managed.port managed.veto)
+devices_of managed X552 = x552.prepare_then managed.port managed.veto (bringup552 managed.port.pause managed.port managed.veto)
+devices_of managed X553 = prepare_device managed.port managed.veto (bringup553 managed.port.pause managed.port managed.veto)
 
 abbrev pub clock_then : Managed → Call (Unit {0}) → Call Value
 clock_then managed t = t >> devices_of managed managed.port.family

@@ -311,7 +311,7 @@ impl Bringup {
     #[tactic(auto, using(crate::proofs::Laws::bringup_clocked))]
     fn clocked(managed: Managed, block: &mut [u32; 16]) -> Step<Job, Bringup, Result<Value, Error>>
         requires { managed.port.family ≡ X553 }
-        ensures { told_bringup managed block.new result ≡ bringup 10 managed.port managed.veto }
+        ensures { told_bringup managed block.new result ≡ bringup managed.port.pause managed.port managed.veto }
     {
         match Clock::of(managed.port) {
             None => Bringup::devices(managed, block),
@@ -327,7 +327,7 @@ impl Bringup {
         managed: Managed,
         block: &mut [u32; 16],
     ) -> Step<Job, Bringup, Result<Value, Error>>
-        ensures { told_bringup managed block.new result ≡ bringup 10 managed.port managed.veto }
+        ensures { told_bringup managed block.new result ≡ bringup managed.port.pause managed.port managed.veto }
     {
         match managed.port.family {
             Family::X552 => Bringup::devices552(managed),

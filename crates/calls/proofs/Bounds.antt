@@ -1,6 +1,6 @@
 -- How long each conversation that was begun is at the most
 use Rattle.hardware.specs.Talk.{Talk, Res}
-use Rattle.std.proofs.Common.{◌≡◌, ℕ, ◌^◌, ◌<◌, ◌≤◌, List, refl, arith, Err, Ok}
+use Rattle.std.proofs.Common.{◌≡◌, ℕ, ◌^◌, ◌<◌, ◌≤◌, List, refl, arith, subst, Err, Ok}
 use Rattle.hardware.specs.Bound.{Within, at_end}
 use Rattle.hardware.specs.declared.Port.{Port}
 use Rattle.hardware.proofs.Refusal.{Taken, taken}
@@ -8,6 +8,7 @@ use Rattle.operations.specs.Request.{request, refused}
 use Rattle.operations.specs.Bounds.{actions, micros}
 use Rattle.operations.specs.Operations.{operation}
 use Rattle.operations.proofs.Bounds.{operation_within, operation_fits}
+use Rattle.operations.proofs.Words.{request_port}
 use Rattle.calls.specs.Conversation.{started, begun}
 use Rattle.reference.specs.Out.{Out}
 use Rattle.operations.specs.declared.Operation.{Operation}
@@ -40,10 +41,11 @@ short_begun port what ws = go (refused port what ws) (taken (request port what w
         }
     go (Ok u) known =
         let fits = operation_fits port what ws (known refl).words in
+        let short = subst (λ (p : Port). p.pause ≤ 100) (request_port port what ws) (known refl).pause in
         record {
           n = actions what ws;
           m = micros what ws;
-          within = operation_within port what ws;
+          within = operation_within port what ws short;
           of_actions = omega arith;
           of_micros = omega arith;
           few = fits.of_actions;

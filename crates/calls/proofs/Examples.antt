@@ -5,7 +5,7 @@ use mathlib.Core.List.{List, [], ◌∷◌}
 use Rattle.hardware.specs.Refusal.{refusal}
 use Rattle.hardware.specs.Talk.{end}
 use Rattle.hardware.specs.declared.Error.{Error}
-use Rattle.hardware.specs.declared.Error.TheVariants.{Lan, Fiber, Address, KrAddress, Block}
+use Rattle.hardware.specs.declared.Error.TheVariants.{Lan, Fiber, Address, KrAddress, Block, Pause}
 use Rattle.hardware.specs.declared.Family.{Family}
 use Rattle.hardware.specs.declared.Family.TheVariants.{X552, X553}
 use Rattle.hardware.specs.declared.Port.{Port}
@@ -19,7 +19,7 @@ use Rattle.calls.specs.Conversation.{Conv, begun, opening}
 
 -- a port of lan 0
 abbrev port : Family → ℕ → Port
-port family device = record { family = family; device = device; lan = 0 }
+port family device = record { family = family; device = device; lan = 0; pause = 10 }
 
 -- ended at once
 abbrev refused : Port → Error → Conv
@@ -120,7 +120,7 @@ modify_wraps = refl
 
 -- no lan of the chip, and fiber
 abbrev wrong : Port
-wrong = record { family = X552; device = 0x15ac; lan = 2 }
+wrong = record { family = X552; device = 0x15ac; lan = 2; pause = 10 }
 
 -- the lan is looked at first
 lan_2 : begun wrong (Probe 32) [] ≡ refused wrong Lan
@@ -136,3 +136,38 @@ lan_before_kr = refl
 fiber_first : begun (port X552 0x15ac) (Probe 32) [] ≡ refused (port X552 0x15ac) Fiber
 unfolding refusal request
 fiber_first = refl
+
+-- the copper port with another pause
+abbrev paused : ℕ → Port
+paused n = record { family = X552; device = 0x15ad; lan = 0; pause = n }
+
+-- 1 and 100 are taken, 0 and 101 are not
+pause_1 : begun (paused 1) (KrRead 5) [] ≡ opening (paused 1) (operation (paused 1) (KrRead 5) [])
+unfolding refusal request
+pause_1 = refl
+
+pause_100 : begun (paused 100) (KrRead 5) [] ≡ opening (paused 100) (operation (paused 100) (KrRead 5) [])
+unfolding refusal request
+pause_100 = refl
+
+pause_0 : begun (paused 0) (KrRead 5) [] ≡ refused (paused 0) Pause
+unfolding refusal request
+pause_0 = refl
+
+pause_101 : begun (paused 101) (KrRead 5) [] ≡ refused (paused 101) Pause
+unfolding refusal request
+pause_101 = refl
+
+-- also of an operation that never waits for the sideband
+veto_paused_0 : begun (paused 0) Veto [] ≡ refused (paused 0) Pause
+unfolding refusal request
+veto_paused_0 = refl
+
+-- 35 and 23 come before it
+kr_before_pause : begun (paused 0) (KrRead 0x10000) [] ≡ refused (paused 0) KrAddress
+unfolding refusal request
+kr_before_pause = refl
+
+block_before_pause : begun (paused 0) Command (words 17) ≡ refused (paused 0) Block
+unfolding refusal request
+block_before_pause = refl

@@ -5,3 +5,4 @@ pub mod Counts
 pub mod Theorems
 pub mod Cases
 mod Examples
+pub mod Pauses

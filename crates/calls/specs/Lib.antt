@@ -2,3 +2,4 @@ pub mod Conversation
 pub mod Run
 pub mod Session
 pub mod Cases
+pub mod Pauses

@@ -44,7 +44,7 @@ module _ (port : Port) (what : Operation) (ws : List ℕ) {r : Request} (asks : 
       let words : take r.words block ≡ take r.words ws =
       ap (take r.words) b ∙ subst (λ n. take n (padded (take r.words ws)) ≡ take r.words ws) counted (take_padded (take r.words ws)) in
       let used : operation port what (take r.words ws) ≡ operation port what ws =
-      subst (λ (x : Request). operation port what (take x.words ws) ≡ operation port what ws) asks (only_words 10 port what ws) in
+      subst (λ (x : Request). operation port what (take x.words ws) ≡ operation port what ws) asks (only_words port.pause port what ws) in
       let verdict : refused port what ws ≡ Ok tt = subst (λ x. refusal x ≡ Ok tt) (sym asks) t in
       ap (opening port) (e ∙ ap (operation port what) words ∙ used) ∙ rw verdict
 

@@ -24,7 +24,7 @@ hold_of c = hold_at c.place c.block
 
 -- another family put into a port, and into a conversation's
 abbrev pub of_family : Family → Port → Port
-of_family f p = record { family = f; device = p.device; lan = p.lan }
+of_family f p = record { family = f; device = p.device; lan = p.lan; pause = p.pause }
 
 abbrev pub in_family : Family → code.Conversation → code.Conversation
 in_family f c = record { port = of_family f c.port; place = c.place; block = c.block; actions = c.actions; micros = c.micros }

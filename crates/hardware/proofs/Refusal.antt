@@ -5,12 +5,12 @@ use mathlib.Core.Path.{◌≡◌, refl}
 use mathlib.Core.Bool.{Bool, true, false, ◌||◌, true≢false}
 use native.Mathlib.Omega.{arith}
 use borrow.Author.Tests.{ltb-false}
-use lib.Dec.{ltb}
+use lib.Dec.{eqb, ltb}
 use Rattle.hardware.specs.Talk.{Res, pick}
 use Rattle.hardware.specs.Refusal.{is_fiber, refusal}
 use Rattle.hardware.specs.declared.Request.{Request}
 use Rattle.hardware.specs.declared.Error.{Error}
-use Rattle.hardware.specs.declared.Error.TheVariants.{Lan, Fiber, Address, KrAddress, Block}
+use Rattle.hardware.specs.declared.Error.TheVariants.{Lan, Fiber, Address, KrAddress, Block, Pause}
 
 pub record Taken (r : Request) : Type 0 where
   pub lan : r.port.lan ≤ 1
@@ -20,6 +20,7 @@ pub record Taken (r : Request) : Type 0 where
   pub kr : r.kr ≤ 0xffff
   pub selected : r.selected ≤ 0xffff
   pub words : r.words ≤ 16
+  pub pause : r.port.pause ≤ 100
 
 not_both : {A : Type 0} {e : Error} {u : Unit {0}} → ◌≡◌ {A = Res (Unit {0})} (Err e) (Ok u) → A
 not_both h = let z : ◌≡◌ {A = ℕ} 0 1 = cc in absurd (omega arith)
@@ -41,6 +42,8 @@ taken r h =
     let mdio = passed (ltb 31 r.phy || ltb 31 r.device) Address fiber.1 in
     let kr = passed (ltb 0xffff r.kr || ltb 0xffff r.selected) KrAddress mdio.1 in
     let block = passed (ltb 16 r.words) Block kr.1 in
+    let paused = passed (eqb r.port.pause 0 || ltb 100 r.port.pause) Pause block.1 in
+    let pause = neither (eqb r.port.pause 0) (ltb 100 r.port.pause) paused.0 in
     let addresses = neither (ltb 31 r.phy) (ltb 31 r.device) mdio.0 in
     let registers = neither (ltb 0xffff r.kr) (ltb 0xffff r.selected) kr.0 in
     record {
@@ -51,4 +54,5 @@ taken r h =
       kr = ltb-false _ _ registers.0;
       selected = ltb-false _ _ registers.1;
       words = ltb-false _ _ block.0;
+      pause = ltb-false _ _ pause.1;
     }

@@ -1,5 +1,5 @@
--- All numbers of the part, and the values that go with each: document 01's table in its order, 35 of document 02 where it is
--- tested, then the calls from C
+-- All numbers of the part, and the values that go with each: document 01's table in its order, 35 and 32 of document 02 where
+-- they are tested, then the calls from C
 use Rattle.std.specs.Prelude.{ℕ, List, [], ◌∷◌}
 use Rattle.hardware.specs.declared.Error.{Error}
 use Rattle.hardware.specs.declared.Misuse.{Misuse}
@@ -21,6 +21,7 @@ use Rattle.hardware.specs.declared.Error.TheVariants.{
   Address,
   KrAddress,
   Block,
+  Pause,
 }
 
 abbrev pub number : Error → ℕ
@@ -38,6 +39,7 @@ number Fiber = 21
 number Address = 22
 number KrAddress = 35
 number Block = 23
+number Pause = 32
 
 abbrev pub values : Error → List ℕ
 values (Io code) = code ∷ []
@@ -54,6 +56,7 @@ values Fiber = []
 values Address = []
 values KrAddress = []
 values Block = []
+values Pause = []
 
 -- how a step or a run stopped. Its values are the conversation, and of 26 and 27 the counts and places to go on from
 abbrev pub stop_number : Stop → ℕ

@@ -22,6 +22,8 @@ pub struct Port {
     pub family: Family,
     pub device: u16,
     pub lan: u32,
+    // the wait between two reads of a busy sideband, in microseconds
+    pub pause: u32,
 }
 
 // A port, and whether manageability firmware has vetoed link changes (MMNGC.MNG_VETO).
@@ -93,6 +95,7 @@ pub enum Error {
     Address,
     KrAddress,
     Block,
+    Pause,
 }
 
 // How a step or a run stopped. Done: a step's action is done, or a run has come to the conversation's end.
@@ -178,6 +181,11 @@ impl Port {
 
     // The first word of the host block.
     pub const FLEX_MNG: u32 = 0x1_5800;
+
+    // The Rust's pause: a port for which none is named has it.
+    pub const PAUSE: u32 = 10;
+
+    const PAUSE_LAST: u32 = 100;
 }
 
 impl Regs {
@@ -222,7 +230,7 @@ impl Request {
     // The largest address of a KR register.
     const KR_LAST: u32 = 0xffff;
 
-    // What `begin` turns away, looked at in this order: the port, the addresses, a command's words.
+    // What `begin` turns away, looked at in this order: the port, the addresses, a command's words, the pause.
     #[tactic(auto, unfolding(crate::specs::Refusal::refusal))]
     pub fn refusal(self) -> Result<(), Error>
         ensures { refusal self ≡ result }
@@ -241,6 +249,9 @@ impl Request {
         }
         if self.words > 16 {
             return Err(Error::Block);
+        }
+        if self.port.pause == 0 || self.port.pause > Port::PAUSE_LAST {
+            return Err(Error::Pause);
         }
         Ok(())
     }

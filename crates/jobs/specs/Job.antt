@@ -30,8 +30,8 @@ job_talk port (job.Wait micros) b = no_word (delay micros)
 job_talk port (job.Command words) b = command port (take words b)
 job_talk port (job.ReadReg phy device reg) b = keep (read_reg port phy device reg) []
 job_talk port (job.WriteReg phy device reg value) b = no_word (write_reg port phy device reg value)
-job_talk port (job.KrRead address) b = keep (kr_read 10 port address) []
-job_talk port (job.KrWrite address value) b = no_word (kr_write 10 port address value)
+job_talk port (job.KrRead address) b = keep (kr_read port.pause port address) []
+job_talk port (job.KrWrite address value) b = no_word (kr_write port.pause port address value)
 job_talk port (job.NvmWord word) b = keep (nvm_word port word) []
 
 -- its answer, or the job and how its state goes on from what the job gave

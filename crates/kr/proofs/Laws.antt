@@ -13,12 +13,12 @@ use Rattle.kr.specs.Sequence.{change_of, sequence_at}
 use Rattle.kr.specs.declared.sequence.KrPlace.TheVariants as place
 
 module _ (port : Port) (first : ℕ) where
-  lane : (family : Family) (value : ℕ) → restart_lane 10 port value family >> return first ≡ restart_lane 10 port first family
+  lane : (family : Family) (value : ℕ) → restart_lane port.pause port value family >> return first ≡ restart_lane port.pause port first family
   lane X552 value = refl
   lane X553 value = bind_assoc (modify_of port (change_of place.RestartLane)) (λ _. return value) (λ _. return first)
 
-  pub restart_first : restarted 10 port first ≡ sequence_at port place.Restart (Some first)
+  pub restart_first : restarted port.pause port first ≡ sequence_at port place.Restart (Some first)
   unfolding restart_an
   restart_first =
-      bind_assoc (modify_of port (change_of place.Restart)) (λ value. restart_lane 10 port value port.family) (λ _. return first)
+      bind_assoc (modify_of port (change_of place.Restart)) (λ value. restart_lane port.pause port value port.family) (λ _. return first)
       ∙ ap (λ (k : ℕ → Call ℕ). modify_of port (change_of place.Restart) >>= k) (fun_ext (lane port.family))

@@ -15,10 +15,10 @@ use Rattle.kr.specs.declared.modify.KrModify.TheVariants as modify
 
 -- the Rust's function, of these arguments
 abbrev pub modify_of : Port → Change → Call ℕ
-modify_of port c = kr_modify 10 port c.port0 c.keep c.set
+modify_of port c = kr_modify port.pause port c.port0 c.keep c.set
 
 abbrev pub got_modify : Port → Change → KrModify → ℕ → Call ℕ
-got_modify port c modify.Reading v = kr_modified 10 port (krm port.lan c.port0) (changed c.keep c.set v)
+got_modify port c modify.Reading v = kr_modified port.pause port (krm port.lan c.port0) (changed c.keep c.set v)
 got_modify port c (modify.Writing value) v = return value
 
 abbrev pub resume_modify : Port → Change → KrModify → Res ℕ → Call ℕ

@@ -32,7 +32,7 @@ first_of (Some first) value = first
 
 -- what `ixfi` does after each of its calls
 abbrev pub ixfi_coeff : Port → ℕ → Call ℕ
-ixfi_coeff port first = modify_of port (change_of place.Coeff) >> restarted 10 port first
+ixfi_coeff port first = modify_of port (change_of place.Coeff) >> restarted port.pause port first
 
 abbrev pub ixfi_ffe5 : Port → ℕ → Call ℕ
 ixfi_ffe5 port first = modify_of port (change_of place.Ffe5) >> ixfi_coeff port first
@@ -42,14 +42,14 @@ ixfi_ffe4 port first = modify_of port (change_of place.Ffe4) >> ixfi_ffe5 port f
 
 -- what the Rust does after it, with the first value written
 abbrev pub sequence_then : Port → KrPlace → ℕ → Call ℕ
-sequence_then port (place.Advertise kr kx) first = kr_autoneg_lane 10 port first port.family
-sequence_then port place.Lane first = restarted 10 port first
+sequence_then port (place.Advertise kr kx) first = kr_autoneg_lane port.pause port first port.family
+sequence_then port place.Lane first = restarted port.pause port first
 sequence_then port (place.Force ten_gig) first = modify_of port (change_of place.Train) >> ixfi_ffe4 port first
 sequence_then port place.Train first = ixfi_ffe4 port first
 sequence_then port place.Ffe4 first = ixfi_ffe5 port first
 sequence_then port place.Ffe5 first = ixfi_coeff port first
-sequence_then port place.Coeff first = restarted 10 port first
-sequence_then port place.Restart first = restart_lane 10 port first port.family
+sequence_then port place.Coeff first = restarted port.pause port first
+sequence_then port place.Restart first = restart_lane port.pause port first port.family
 sequence_then port place.RestartLane first = return first
 
 abbrev pub sequence_after : Port → KrPlace → (Option ℕ) → Call ℕ → Call ℕ

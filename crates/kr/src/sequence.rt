@@ -106,7 +106,7 @@ impl Sequence {
 
     // restart_an as the last part of another sequence, whose first value is the answer.
     fn restart(port: Port, first: u32) -> Step<Job, Sequence, Result<u32, Error>>
-        ensures { (b : List ℕ) → told_sequence port b result ≡ restarted 10 port first }
+        ensures { (b : List ℕ) → told_sequence port b result ≡ restarted port.pause port first }
     {
         Sequence::begin(port, KrPlace::Restart, Some(first))
     }

@@ -1,17 +1,24 @@
 -- The port line, word by word
-use Rattle.std.specs.Prelude.{ℕ, List, [], ◌∷◌, Option, None}
+use Rattle.std.specs.Prelude.{ℕ, List, [], ◌∷◌, Option, Some, None}
 use Rattle.std.specs.Option.{option_map, option_and_then}
 use Rattle.hardware.specs.Talk.{pick}
 use Rattle.hardware.specs.declared.Family.{Family}
 use Rattle.hardware.specs.declared.Port.{Port}
 use Rattle.hardware.specs.declared.Family.TheVariants.{X552, X553}
+use Rattle.text.specs.Decimal.{decimal_u32}
 use Rattle.text.specs.Hex.{hex_word}
 use Rattle.text.specs.Same.{same}
 
+-- the pause, in decimal; where it is not named it is the Rust's
+abbrev pub pause_of : List (List ℕ) → Option ℕ
+pause_of [] = Some 10
+pause_of (w ∷ []) = decimal_u32 w
+pause_of (w ∷ x ∷ ws) = None
+
 abbrev pub lan_of : Family → ℕ → List (List ℕ) → Option Port
 lan_of family device [] = None
-lan_of family device (w ∷ []) = option_map (λ lan. record { family = family; device = device; lan = lan }) (hex_word 1 8 w)
-lan_of family device (w ∷ x ∷ ws) = None
+lan_of family device (w ∷ ws) =
+    option_and_then (λ lan. option_map (λ pause. record { family = family; device = device; lan = lan; pause = pause }) (pause_of ws)) (hex_word 1 8 w)
 
 abbrev pub device_of : Family → List (List ℕ) → Option Port
 device_of family [] = None

@@ -1,25 +1,40 @@
-// The first line: `port`, the family, the device id in four hexadecimal digits, the lan in one to eight.
+// The first line: `port`, the family, the device id in four hexadecimal digits, the lan in one to eight, and, where it is not the
+// Rust's, the pause in decimal.
 ghost use Rattle.std.specs.Prelude.{◌≡◌, drop};
 ghost use Rattle.text.specs.Words.{words};
-ghost use Rattle.lines.specs.Port.{lan_of, device_of, family_of, port_of};
+ghost use Rattle.lines.specs.Port.{pause_of, lan_of, device_of, family_of, port_of};
 
 use hardware::{Family, Port};
+use text::decimal::number_u32;
 use text::{hex, is, word};
 
-// The last word. A lan of any size is read: `begin` refuses one above 1.
+// The last word, if there is one. A pause of any size is read: `begin` refuses one of 0 or above 100.
+#[tactic(auto, using(text::proofs::PartLaws::part_slice))]
+fn pause_at(line: &[u8], at: usize) -> Option<u32>
+    ensures { pause_of (words (drop at line.now)) ≡ result }
+{
+    let Some((start, end)) = word(line, at) else {
+        return Some(Port::PAUSE);
+    };
+    if word(line, end).is_some() {
+        return None;
+    }
+    number_u32(line.get(start..end)?)
+}
+
+// A lan of any size is read: `begin` refuses one above 1.
 #[tactic(auto, using(crate::proofs::Laws::found_hex))]
 fn lan_at(line: &[u8], at: usize, family: Family, device: u16) -> Option<Port>
     ensures { lan_of family device (words (drop at line.now)) ≡ result }
 {
     let (start, end) = word(line, at)?;
-    if word(line, end).is_some() {
-        return None;
-    }
     let lan = hex(line, start, end, 1, 8)?;
+    let pause = pause_at(line, end)?;
     Some(Port {
         family,
         device,
         lan,
+        pause,
     })
 }
 

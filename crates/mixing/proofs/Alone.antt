@@ -211,7 +211,7 @@ locked_alone f p will who c e d body v g l does swsm_same sync_same =
     let give = whole f p (l take.left) (g take.chip) (release_bits port 6) in
     let given = releases f p (l take.left) who (g take.chip) (swsm_same take.chip ∙ taken.swsm) (sync_same take.chip ∙ taken.sync) in
     let goes : whole f p will c (locked plain port 6 body) ≡ record { answer = Ok (v take.chip); chip = give.chip; left = give.left } =
-    ap (whole f p will c) (sym (bits_only who.pause port body))
+    ap (whole f p will c) (sym (bits_only port body))
     ∙ whole_then f p will c (acquire_bits port 6) (held_taken plain (release_bits port 6) body)
     ∙ ap (λ r. whole f p take.left take.chip (held_taken plain (release_bits port 6) body r)) taken.answer
     ∙ whole_then f p take.left take.chip body (held_done plain (release_bits port 6))

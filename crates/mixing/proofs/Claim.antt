@@ -13,7 +13,7 @@ use Rattle.hardware.specs.Bits.{bit}
 use Rattle.hardware.specs.declared.Family.{Family}
 use Rattle.hardware.proofs.Bits.{bit-bit_and, bit_zero}
 use Rattle.reference.specs.Out.{Out}
-use Rattle.operations.specs.Operations.{operation_with}
+use Rattle.operations.specs.Operations.{operation}
 use Rattle.mixing.specs.Heeded.{ended_well, Heeded}
 use Rattle.mixing.specs.Operations.{port_at}
 use Rattle.mixing.specs.Mixing.{table, Right, Mixed, starting, Mixing, takes, begun_if, Parts, ops_of, Demand3}
@@ -93,17 +93,17 @@ pub fit : (f : Family) (t : Talk Out) (b : Bool) (m : b ≡ true → Made f t) �
 fit f t true m s g e w W r = subst (λ h. Wp f (OpEnds w) W h.talk) (same_Some _ _ e) (fits (s refl) w W r)
 fit f t false m s g e w W r = let z : true ≡ false = cc in absurd (true≢false z)
 
-pub ops_fit : (pause : ℕ) (f : Family) (made : Parts pause f) → Fit f (λ _. 0) (ops_of pause f made)
-ops_fit pause f made p q =
-    let port = port_at f p q.device in
-    fit f (operation_with pause port q.what q.block) (takes port q.what q.block) (made p q) (sound pause port q.what q.block)
+pub ops_fit : (f : Family) (made : Parts f) → Fit f (λ _. 0) (ops_of f made)
+ops_fit f made p q =
+    let port = port_at f p q in
+    fit f (operation port q.what q.block) (takes port q.what q.block) (made p q) (sound port q.what q.block)
 
-pub demand_3 : (pause : ℕ) (f : Family) → Demand3 pause f
-demand_3 pause f =
+pub demand_3 : (f : Family) → Demand3 f
+demand_3 f =
     record {
-      parts = λ p q h. (sound pause (port_at f p q.device) q.what q.block h).made;
-      mixes = λ made. mixing f (ops_of pause f made) (ops_fit pause f made);
+      parts = λ p q h. (sound (port_at f p q) q.what q.block h).made;
+      mixes = λ made. mixing f (ops_of f made) (ops_fit f made);
     }
 
 pub heeded : Heeded
-heeded pause port what ws h = (sound pause port what ws h).heeds
+heeded port what ws h = (sound port what ws h).heeds

@@ -233,29 +233,29 @@ module _ (f : Family) (p : Side) (s : Sys f) (well : Bool) where
   in_stays x seen a c k m None = refl
   in_stays x seen a c k m (Some g) = refl
 
-module _ (f : Family) (made : Parts 10 f) where
+module _ (f : Family) (made : Parts f) where
   begins_tied : (p : Side) (a : Asked) (s : Sys f) (r : Real) → Tied s r → (q : State f) → s.ports p ≡ q → Stands q (r.ports p).conv.talk (r.ports p).well
-      → Tied (begins f p s (ops_of 10 f made p a) q) (starts f p a r (r.ports p) (r.ports p).conv.talk)
+      → Tied (begins f p s (ops_of f made p a) q) (starts f p a r (r.ports p) (r.ports p).conv.talk)
   begins_tied p a s r t (idle well) e h =
-      let port = port_at f p a.device in
+      let port = port_at f p a in
       subst (Tied _) (sym (ap (starts f p a r (r.ports p)) h.0.1))
       (begun_tied f p s r t port (operation port a.what a.block) well (mixable a.what)
       (refused port a.what a.block) (made p a) e h.1)
   begins_tied p a s r t (out well b c o m) e h =
-      subst (Tied _) (sym (ap (starts f p a r (r.ports p)) h.0)) (subst (λ z. Tied z r) (sym (out_stays f p s well b c o m (ops_of 10 f made p a))) t)
+      subst (Tied _) (sym (ap (starts f p a r (r.ports p)) h.0)) (subst (λ z. Tied z r) (sym (out_stays f p s well b c o m (ops_of f made p a))) t)
   begins_tied p a s r t (inside well x seen b c k m) e h =
-      subst (Tied _) (sym (ap (starts f p a r (r.ports p)) h.0)) (subst (λ z. Tied z r) (sym (in_stays f p s well x seen b c k m (ops_of 10 f made p a))) t)
+      subst (Tied _) (sym (ap (starts f p a r (r.ports p)) h.0)) (subst (λ z. Tied z r) (sym (in_stays f p s well x seen b c k m (ops_of f made p a))) t)
 
-  step_tied : (e : Event Asked) (s : Sys f) (r : Real) → Tied s r → Tied (step f (ops_of 10 f made) e s) (step_real f e r)
+  step_tied : (e : Event Asked) (s : Sys f) (r : Real) → Tied s r → Tied (step f (ops_of f made) e s) (step_real f e r)
   unfolding step
   step_tied (begin p a) s r t = begins_tied p a s r t (s.ports p) refl (t.stands p)
   step_tied (act p w) s r t = acts_tied f p w s r t (s.ports p) refl (t.stands p)
   step_tied (firm i) s r t = record { chip = ap (do_firmware i) t.chip; stands = t.stands; own = t.own; touches = t.touches }
 
-  run_tied : (es : List (Event Asked)) (s : Sys f) (r : Real) → Tied s r → Tied (run f (ops_of 10 f made) es s) (run_real f es r)
+  run_tied : (es : List (Event Asked)) (s : Sys f) (r : Real) → Tied s r → Tied (run f (ops_of f made) es s) (run_real f es r)
   unfolding run run_real
   run_tied [] s r t = t
-  run_tied (e ∷ es) s r t = run_tied es (step f (ops_of 10 f made) e s) (step_real f e r) (step_tied e s r t)
+  run_tied (e ∷ es) s r t = run_tied es (step f (ops_of f made) e s) (step_real f e r) (step_tied e s r t)
 
 pub as_the_model : (f : Family) → AsTheModel f
 as_the_model f made before bits address regs es =
@@ -296,11 +296,11 @@ pub demand_3_of_the_code : (f : Family) → OfTheCode f
 demand_3_of_the_code f before bits address regs es = served (run f ops es (starting (free bits address regs))) _ (d.mixes d.parts bits address regs es)
     (as_the_model f d.parts before bits address regs es)
   where
-    d : Demand3 10 f
-    d = demand_3 10 f
+    d : Demand3 f
+    d = demand_3 f
 
     ops : Side → Asked → Option (Begun f)
-    ops = ops_of 10 f d.parts
+    ops = ops_of f d.parts
 
     served : (s : Sys f) (r : Real) → Mixed regs s → Tied s r → Served regs r
     served s r m t = record {

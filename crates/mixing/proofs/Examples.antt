@@ -24,7 +24,7 @@ use Rattle.reference.specs.X552.{iosf_idle, kr_read, kr_write}
 use Rattle.calls.specs.Conversation.{step_talk}
 use Rattle.hardware.specs.declared.Stop.TheVariants.{AfterEnd}
 use Rattle.mixing.specs.Conversations.{step_real, Real, run_real, fresh}
-use Rattle.mixing.specs.Operations.{Asked, number, port_at}
+use Rattle.mixing.specs.Operations.{Asked, number, port_with}
 use Rattle.mixing.specs.Mixing.{starting, takes}
 use Rattle.mixing.specs.Model.{World, Side, lan0, lan1, of_port, take, let_go, raise, free}
 use Rattle.mixing.specs.Model as model
@@ -86,7 +86,7 @@ module _ (regs : ℕ → ℕ) where
 -- ---- the code's conversations
 
 abbrev asks : ℕ → Operation → Asked
-asks device what = record { device = device; what = what; block = [] }
+asks device what = record { device = device; pause = 10; what = what; block = [] }
 
 abbrev at_work : Family → (ℕ → ℕ) → List (Event Asked) → Real
 at_work f regs es = run_real f es (fresh f (λ _. (Ok valuev.Nothing, [])) (free 0x20 7 regs))
@@ -141,7 +141,7 @@ module _ (regs : ℕ → ℕ) where
 
 -- what is begun, and what is refused: a fiber port, a KR address above 0xffff, a PHY address above 31, a host block of 17 words, a bare acquire
 abbrev asked : ℕ → Operation → List ℕ → Bool
-asked device what ws = takes (port_at X552 lan0 device) what ws
+asked device what ws = takes (port_with X552 lan0 device 10) what ws
 
 begun_or_not :
     (asked 0x15ad (KrRead 0xffff) [] ≡ true)

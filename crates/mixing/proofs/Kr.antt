@@ -119,34 +119,34 @@ module _ (f : Family) (pause a : ℕ) where
 
 -- ---- the accesses
 
-module _ (pause : ℕ) (port : Port) where
+module _ (port : Port) where
   -- mask 6 has no TOKEN
   pub bits_only : {A : Type 0} (body : Call A) → locked_bits plain port 6 body ≡ locked plain port 6 body
   bits_only body = sym (locked_bits_lem plain port 6 body (omega arith) refl (λ e. omega arith))
 
   abbrev caller : Caller
-  caller = record { pause = pause; device = port.device; lan = port.lan }
+  caller = record { pause = port.pause; device = port.device; lan = port.lan }
 
-  pub reads_kr : (a : ℕ) → a ≤ 0xffff → Sound port.family is_ok (kr_read pause port a)
+  pub reads_kr : (a : ℕ) → a ≤ 0xffff → Sound port.family is_ok (kr_read port.pause port a)
   unfolding kr_read
   reads_kr a h =
       record {
-        made = access (reads caller a) end (sym (then_end (kr_read pause port a))) (λ r. done r);
-        balanced = λ m W now. subst (Wp port.family (Ends is_ok m) W) (bits_only (kr_read_body pause a))
-            (under_wp (bits_bracket port 6) honest_plain m (λ W₁ n. read_body_lem pause a W₁ n (n.mine 1 ∙ has_1 m)) W now);
-        heeds = subst (Heeds port.family is_ok) (bits_only (kr_read_body pause a))
-            (under_heeds (bits_bracket port 6) honest_plain (heeds_only (unlocked_read port.family pause a)));
-        addressed = subst Addressed (bits_only (kr_read_body pause a)) (under_addressed (bits_bracket port 6) honest_plain (read_addressed pause a h));
+        made = access (reads caller a) end (sym (then_end (kr_read port.pause port a))) (λ r. done r);
+        balanced = λ m W now. subst (Wp port.family (Ends is_ok m) W) (bits_only (kr_read_body port.pause a))
+            (under_wp (bits_bracket port 6) honest_plain m (λ W₁ n. read_body_lem port.pause a W₁ n (n.mine 1 ∙ has_1 m)) W now);
+        heeds = subst (Heeds port.family is_ok) (bits_only (kr_read_body port.pause a))
+            (under_heeds (bits_bracket port 6) honest_plain (heeds_only (unlocked_read port.family port.pause a)));
+        addressed = subst Addressed (bits_only (kr_read_body port.pause a)) (under_addressed (bits_bracket port 6) honest_plain (read_addressed port.pause a h));
       }
 
-  pub writes_kr : (a w : ℕ) → a ≤ 0xffff → Sound port.family is_ok (kr_write pause port a w)
+  pub writes_kr : (a w : ℕ) → a ≤ 0xffff → Sound port.family is_ok (kr_write port.pause port a w)
   unfolding kr_write
   writes_kr a w h =
       record {
-        made = access (writes caller a w) end (sym (then_end (kr_write pause port a w))) (λ r. done r);
-        balanced = λ m W now. subst (Wp port.family (Ends is_ok m) W) (bits_only (kr_write_body pause a w))
-            (under_wp (bits_bracket port 6) honest_plain m (λ W₁ n. write_body_lem pause a W₁ n (n.mine 1 ∙ has_1 m) w) W now);
-        heeds = subst (Heeds port.family is_ok) (bits_only (kr_write_body pause a w))
-            (under_heeds (bits_bracket port 6) honest_plain (heeds_only (unlocked_write port.family pause a w)));
-        addressed = subst Addressed (bits_only (kr_write_body pause a w)) (under_addressed (bits_bracket port 6) honest_plain (write_addressed pause a h w));
+        made = access (writes caller a w) end (sym (then_end (kr_write port.pause port a w))) (λ r. done r);
+        balanced = λ m W now. subst (Wp port.family (Ends is_ok m) W) (bits_only (kr_write_body port.pause a w))
+            (under_wp (bits_bracket port 6) honest_plain m (λ W₁ n. write_body_lem port.pause a W₁ n (n.mine 1 ∙ has_1 m) w) W now);
+        heeds = subst (Heeds port.family is_ok) (bits_only (kr_write_body port.pause a w))
+            (under_heeds (bits_bracket port 6) honest_plain (heeds_only (unlocked_write port.family port.pause a w)));
+        addressed = subst Addressed (bits_only (kr_write_body port.pause a w)) (under_addressed (bits_bracket port 6) honest_plain (write_addressed port.pause a h w));
       }

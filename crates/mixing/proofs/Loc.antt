@@ -205,7 +205,7 @@ right_error (writes who a w) s e = tt
 locked_loc : (f : Family) (x : Access) (who : Caller) (z : Option ℕ) (body : Call (Given x))
     → ((z : Option ℕ) → Loc f x (RightGave x) z None body) → Loc f x (RightGave x) z None (locked plain (port_of f who) 6 body)
 locked_loc f x who z body h =
-    subst (Loc f x (RightGave x) z None) (bits_only who.pause (port_of f who) body)
+    subst (Loc f x (RightGave x) z None) (bits_only (port_of f who) body)
     (loc_then (loc_plain (plain_acquire (port_of f who) 6)) taken)
   where
     taken : (y s : Option ℕ) (r : Res (Unit {0})) → s ≡ None → Loc f x (RightGave x) y s (held_taken plain (release_bits (port_of f who) 6) body r)

@@ -14,7 +14,7 @@ use Rattle.reference.specs.Hardware as hardware
 use Rattle.reference.specs.Bringup.{after_reset, bringup552, bringup553, bringup_of, bringup}
 use Rattle.reference.specs.Out.{answer}
 use Rattle.operations.specs.Request.{request, refused}
-use Rattle.operations.specs.Operations.{operation_with}
+use Rattle.operations.specs.Operations.{operation}
 use Rattle.operations.specs.declared.Operation.{Operation}
 use Rattle.operations.specs.declared.Operation.TheVariants as operationv
 use Rattle.mixing.specs.Heeded.{ended_well}
@@ -34,7 +34,7 @@ use Rattle.mixing.proofs.X553 as sound553
 answers : {A : Type 0} {f : Family} {t : Call A} (g : A → Value) → Sound f is_ok t → Sound f ended_well (answer g t)
 answers g s = keeps [] (bind s (λ a. ends))
 
-module _ (pause : ℕ) (port : Port) where
+module _ (port : Port) where
   s_linked : (value : ℕ) → Sound port.family is_ok (hardware.linked port.family value)
   unfolding hardware.linked
   s_linked value = picks (is_clear value 0x40000000) ends ends
@@ -43,16 +43,16 @@ module _ (pause : ℕ) (port : Port) where
   s_after_reset familyv.X552 = sound552.s_after_reset port
   s_after_reset familyv.X553 = sound553.s_after_reset port
 
-  s_bringup_of : (veto : Bool) (g : Family) → Sound port.family is_ok (bringup_of pause port veto g)
-  s_bringup_of veto familyv.X552 = sound552.s_prepare port {after = bringup552 pause port veto} veto (λ p. bind (sound552.s_setup pause port veto p) (λ s. ends))
-  s_bringup_of veto familyv.X553 = sound553.s_prepare port {after = bringup553 pause port veto} veto (λ p. bind (sound553.s_setup pause port veto p) (λ s. ends))
+  s_bringup_of : (veto : Bool) (g : Family) → Sound port.family is_ok (bringup_of port.pause port veto g)
+  s_bringup_of veto familyv.X552 = sound552.s_prepare port {after = bringup552 port.pause port veto} veto (λ p. bind (sound552.s_setup port veto p) (λ s. ends))
+  s_bringup_of veto familyv.X553 = sound553.s_prepare port {after = bringup553 port.pause port veto} veto (λ p. bind (sound553.s_setup port veto p) (λ s. ends))
 
-  s_bringup : (veto : Bool) → Sound port.family is_ok (bringup pause port veto)
+  s_bringup : (veto : Bool) → Sound port.family is_ok (bringup port.pause port veto)
   unfolding bringup
   s_bringup veto = s_bringup_of veto port.family
 
   pub sound_op : (what : Operation) (ws : List ℕ) → mixable what ≡ true → Taken (request port what ws)
-      → Sound port.family ended_well (operation_with pause port what ws)
+      → Sound port.family ended_well (operation port what ws)
   unfolding request
   sound_op operationv.Veto ws m h = answers _ (bind (s_read (far 0x42d0 tt tt port.family)) (λ mmngc. ends))
   sound_op operationv.Link ws m h = answers _ (bind (s_read (far 0x42a4 tt tt port.family)) s_linked)
@@ -70,15 +70,15 @@ module _ (pause : ℕ) (port : Port) where
   sound_op (operationv.Abilities phy) ws m h = answers _ (s_abilities port phy)
   sound_op (operationv.Advertise asked) ws m h = answers _ (s_advertise port asked.phy asked.speeds asked.nbase asked.veto)
   sound_op (operationv.AnLink phy) ws m h = answers _ (s_an_link port phy)
-  sound_op (operationv.KrRead address) ws m h = answers _ (reads_kr pause port address h.selected)
-  sound_op (operationv.KrWrite address value) ws m h = answers _ (writes_kr pause port address value h.selected)
-  sound_op (operationv.KrModify c) ws m h = answers _ (s_kr_modify pause port c.port0 c.keep c.set h.selected)
-  sound_op operationv.RestartAn ws m h = answers _ (s_restart pause port)
-  sound_op (operationv.KrAutoneg kr kx) ws m h = answers _ (s_autoneg pause port kr kx)
+  sound_op (operationv.KrRead address) ws m h = answers _ (reads_kr port address h.selected)
+  sound_op (operationv.KrWrite address value) ws m h = answers _ (writes_kr port address value h.selected)
+  sound_op (operationv.KrModify c) ws m h = answers _ (s_kr_modify port c.port0 c.keep c.set h.selected)
+  sound_op operationv.RestartAn ws m h = answers _ (s_restart port)
+  sound_op (operationv.KrAutoneg kr kx) ws m h = answers _ (s_autoneg port kr kx)
   sound_op (operationv.NvmWord word) ws m h = answers _ (s_nvm port word)
   sound_op operationv.AfterReset ws m h = answers _ (s_after_reset port.family)
   sound_op (operationv.Bringup veto) ws m h = keeps [] (s_bringup veto)
-  sound_op (operationv.Poll w) ws m h = answers _ (s_poll pause port w.phy w.internal w.forced w.reforced)
+  sound_op (operationv.Poll w) ws m h = answers _ (s_poll port w.phy w.internal w.forced w.reforced)
 
 -- one that is mixed is not refused
 pub is_ok_lem : (r : Res (Unit {0})) → is_ok r ≡ true → r ≡ Ok tt
@@ -89,9 +89,9 @@ pub and_right : (a b : Bool) → (a && b) ≡ true → b ≡ true
 and_right true b h = h
 and_right false b h = absurd (true≢false (sym h))
 
-pub sound : (pause : ℕ) (port : Port) (what : Operation) (ws : List ℕ) → takes port what ws ≡ true
-    → Sound port.family ended_well (operation_with pause port what ws)
-sound pause port what ws h =
+pub sound : (port : Port) (what : Operation) (ws : List ℕ) → takes port what ws ≡ true
+    → Sound port.family ended_well (operation port what ws)
+sound port what ws h =
     let verdict : Res (Unit {0}) = refused port what ws in
-    sound_op pause port what ws (and_left (mixable what) (is_ok verdict) h)
+    sound_op port what ws (and_left (mixable what) (is_ok verdict) h)
     (taken (request port what ws) (is_ok_lem verdict (and_right (mixable what) (is_ok verdict) h)))

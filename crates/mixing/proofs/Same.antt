@@ -63,8 +63,8 @@ module _ (f : Family) (p : Side) (c : Chip) (W : View) (k : ChipOk c) (s : Sees 
   next_same (out well a g o m) h = due_same h
   next_same (inside well x seen a g t m) h = due_same h.goes
 
-pub ports_store_the_same : (pause : ℕ) (f : Family) → PortsStoreTheSame pause f
-ports_store_the_same pause f made bits address regs es p = go _ (run_ok f regs (ops_of pause f made) (ops_fit pause f made) es _ (starts f bits address regs))
+pub ports_store_the_same : (f : Family) → PortsStoreTheSame f
+ports_store_the_same f made bits address regs es p = go _ (run_ok f regs (ops_of f made) (ops_fit f made) es _ (starts f bits address regs))
   where
     go : (s : Sys f) → Inv f regs s → SameNext s.chip (s.ports p)
     go s i = next_same f p s.chip (i.view p) i.chip (i.sees p) (s.ports p) (i.ports p)
@@ -79,12 +79,12 @@ code_same {f} c (inside well x seen a g k m) t w h e = subst (SameDue f c) (sym 
 module _ (f : Family) (before : Side → Out) (bits address : ℕ) (regs : ℕ → ℕ) (es : List (Event Asked)) (p : Side) where
   words_same : let r = run_real f es (fresh f before (free bits address regs)) in SameDue f r.chip (r.ports p).conv.talk
   words_same =
-      let made = (demand_3 10 f).parts in
-      let s = run f (ops_of 10 f made) es (starting (free bits address regs)) in
+      let made = (demand_3 f).parts in
+      let s = run f (ops_of f made) es (starting (free bits address regs)) in
       let r = run_real f es (fresh f before (free bits address regs)) in
       let t = as_the_model f made before bits address regs es in
       code_same r.chip (s.ports p) (r.ports p).conv.talk (r.ports p).well
-      (subst (λ c. SameNext c (s.ports p)) (sym t.chip) (ports_store_the_same 10 f made bits address regs es p)) (t.stands p)
+      (subst (λ c. SameNext c (s.ports p)) (sym t.chip) (ports_store_the_same f made bits address regs es p)) (t.stands p)
 
 -- ---- so the chip goes on alike
 

@@ -16,7 +16,7 @@ use Rattle.hardware.specs.declared.Family.{Family}
 use Rattle.hardware.specs.declared.Port.{Port}
 use Rattle.hardware.proofs.Refusal.{Taken, taken}
 use Rattle.reference.specs.Out.{Out}
-use Rattle.operations.specs.Operations.{operation_with, operation}
+use Rattle.operations.specs.Operations.{operation}
 use Rattle.operations.specs.Request.{request, refused}
 use Rattle.operations.specs.declared.Operation.{Operation}
 use Rattle.operations.specs.declared.Operation.TheVariants as operationv
@@ -36,9 +36,9 @@ use Rattle.mixing.proofs.Token.{acquire_addressed, release_addressed}
 
 -- ---- what can be begun
 
-module _ (pause : ℕ) (port : Port) where
+module _ (port : Port) where
   -- the two that are not mixed
-  bare_addressed : (what : Operation) (ws : List ℕ) → mixable what ≡ false → Addressed (operation_with pause port what ws)
+  bare_addressed : (what : Operation) (ws : List ℕ) → mixable what ≡ false → Addressed (operation port what ws)
   bare_addressed (operationv.Acquire mask) ws e = only_then (only_bind (acquire_addressed port mask) (λ _. only_end)) (λ r. only_end)
   bare_addressed (operationv.Release mask) ws e = only_then (only_bind (release_addressed port mask) (λ _. only_end)) (λ r. only_end)
   bare_addressed operationv.Veto ws e = absurd (true≢false e)
@@ -65,11 +65,11 @@ module _ (pause : ℕ) (port : Port) where
   bare_addressed (operationv.Bringup veto) ws e = absurd (true≢false e)
   bare_addressed (operationv.Poll w) ws e = absurd (true≢false e)
 
-  pub addressed : (what : Operation) (ws : List ℕ) → Taken (request port what ws) → Addressed (operation_with pause port what ws)
+  pub addressed : (what : Operation) (ws : List ℕ) → Taken (request port what ws) → Addressed (operation port what ws)
   addressed what ws h = go (mixable what) refl
     where
-      go : (b : Bool) → mixable what ≡ b → Addressed (operation_with pause port what ws)
-      go true e = (sound_op pause port what ws e h).addressed
+      go : (b : Bool) → mixable what ≡ b → Addressed (operation port what ws)
+      go true e = (sound_op port what ws e h).addressed
       go false e = bare_addressed what ws e
 
 pub all_addressed : AllAddressed
@@ -77,7 +77,7 @@ all_addressed port what ws = go (refused port what ws) (taken (request port what
   where
     go : (r : Res (Unit {0})) → (r ≡ Ok tt → Taken (request port what ws)) → Addressed (started (operation port what ws) r)
     go (Err e) h = only_end
-    go (Ok _) h = addressed 10 port what ws (h refl)
+    go (Ok _) h = addressed port what ws (h refl)
 
 -- ---- every list of events
 
@@ -155,7 +155,7 @@ module _ (f : Family) (s : Real) (h : Ranged s) where
   starts_ranged p q (end r) = go (mixable q.what) _
     where
       port : Port
-      port = port_at f p q.device
+      port = port_at f p q
 
       go : (b well : Bool) → Ranged (pick b (changed p s.chip (at_port (begun port q.what q.block) well (s.ports p).own) s.touches s) s)
       go true well = record { chip = h.chip; ports = changed_ports Says p _ s.ports (all_addressed port q.what q.block) h.ports }

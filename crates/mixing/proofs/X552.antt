@@ -111,34 +111,34 @@ module _ (port : Port) where
 
 -- ---- with accesses
 
-module _ (pause : ℕ) (port : Port) where
-  pub s_kr_modify : (port0 keep set : ℕ) → krm port.lan port0 ≤ 0xffff → Sound port.family is_ok (kr_modify pause port port0 keep set)
+module _ (port : Port) where
+  pub s_kr_modify : (port0 keep set : ℕ) → krm port.lan port0 ≤ 0xffff → Sound port.family is_ok (kr_modify port.pause port port0 keep set)
   unfolding kr_modify
   s_kr_modify port0 keep set h =
-      bind (reads_kr pause port (krm port.lan port0) h)
-      (λ v. bind (writes_kr pause port (krm port.lan port0) (changed keep set v) h) (λ _. ends))
+      bind (reads_kr port (krm port.lan port0) h)
+      (λ v. bind (writes_kr port (krm port.lan port0) (changed keep set v) h) (λ _. ends))
 
   -- of a register whose address the Rust names
-  pub s_kr_named : (port0 keep set : ℕ) → port0 + 0x4000 ≤ 0xffff → Sound port.family is_ok (kr_modify pause port port0 keep set)
+  pub s_kr_named : (port0 keep set : ℕ) → port0 + 0x4000 ≤ 0xffff → Sound port.family is_ok (kr_modify port.pause port port0 keep set)
   s_kr_named port0 keep set h = s_kr_modify port0 keep set (on_lan port.lan port0 h)
 
-  s_restart_lane : (lc1 : ℕ) (g : Family) → Sound port.family is_ok (restart_lane pause port lc1 g)
+  s_restart_lane : (lc1 : ℕ) (g : Family) → Sound port.family is_ok (restart_lane port.pause port lc1 g)
   s_restart_lane lc1 X552 = ends
   s_restart_lane lc1 X553 = bind (s_kr_named 0x5054 _ _ (omega arith)) (λ _. ends)
 
-  pub s_restart : Sound port.family is_ok (restart_an pause port)
+  pub s_restart : Sound port.family is_ok (restart_an port.pause port)
   unfolding restart_an
   s_restart = bind (s_kr_named 0x420c _ _ (omega arith)) (λ lc1. s_restart_lane lc1 port.family)
 
-  s_autoneg_lane : (lc1 : ℕ) (g : Family) → Sound port.family is_ok (kr_autoneg_lane pause port lc1 g)
+  s_autoneg_lane : (lc1 : ℕ) (g : Family) → Sound port.family is_ok (kr_autoneg_lane port.pause port lc1 g)
   s_autoneg_lane lc1 X552 = bind s_restart (λ _. ends)
   s_autoneg_lane lc1 X553 = bind (s_kr_named 0x5054 _ _ (omega arith)) (λ _. bind s_restart (λ _. ends))
 
-  pub s_autoneg : (kr kx : Bool) → Sound port.family is_ok (kr_autoneg pause port kr kx)
+  pub s_autoneg : (kr kx : Bool) → Sound port.family is_ok (kr_autoneg port.pause port kr kx)
   unfolding kr_autoneg
   s_autoneg kr kx = bind (s_kr_named 0x420c _ _ (omega arith)) (λ lc1. s_autoneg_lane lc1 port.family)
 
-  pub s_ixfi : (ten_gig : Bool) → Sound port.family is_ok (ixfi pause port ten_gig)
+  pub s_ixfi : (ten_gig : Bool) → Sound port.family is_ok (ixfi port.pause port ten_gig)
   unfolding ixfi
   s_ixfi ten_gig =
       bind (s_kr_named 0x420c _ _ (omega arith))
@@ -151,7 +151,7 @@ module _ (pause : ℕ) (port : Port) where
   s_copper_advertise : (veto : Bool) (x : X557) (s : Speeds) → Sound port.family is_ok (copper_advertise port veto x s)
   s_copper_advertise veto x s = bind (s_advertise port x.phy s None veto) (λ restarted. ends)
 
-  s_internal : (veto : Bool) (x : X557) (s : Speeds) (internal : Internal) → Sound port.family is_ok (copper_internal pause port veto x s internal)
+  s_internal : (veto : Bool) (x : X557) (s : Speeds) (internal : Internal) → Sound port.family is_ok (copper_internal port.pause port veto x s internal)
   s_internal veto x s Kr = s_copper_advertise veto x s
   s_internal veto x s Ixfi =
       bind (s_ixfi s.g10)
@@ -160,30 +160,30 @@ module _ (pause : ℕ) (port : Port) where
       (λ links. picks (is_clear links 0x40000000) g (bind (s_an_link port x.phy) (λ up. picks up (s_copper_advertise veto x s) g)))))
       (s_copper_advertise veto x s) 10)
 
-  pub s_copper_link : (veto : Bool) (x : X557) → Sound port.family is_ok (copper_link pause port veto x)
+  pub s_copper_link : (veto : Bool) (x : X557) → Sound port.family is_ok (copper_link port.pause port veto x)
   unfolding copper_link
   s_copper_link veto x = bind (s_abilities port x.phy) (λ s. s_internal veto x (without100 s) x.internal)
 
-  s_setup_prepared : (veto : Bool) (p : Prepared) → Sound port.family is_ok (setup_prepared pause port veto p)
+  s_setup_prepared : (veto : Bool) (p : Prepared) → Sound port.family is_ok (setup_prepared port.pause port veto p)
   s_setup_prepared veto (copper x) = bind (s_copper_link veto x) (λ s. ends)
   s_setup_prepared veto nothing = picks (eqb port.device 0x15ae) ends (picks (eqb port.device 0x15b0) ends ends)
 
-  pub s_setup : (veto : Bool) (p : Prepared) → Sound port.family is_ok (setup pause port veto p)
+  pub s_setup : (veto : Bool) (p : Prepared) → Sound port.family is_ok (setup port.pause port veto p)
   s_setup veto p =
       picks (eqb port.device 0x15ab) (s_vetoed port veto ends (bind (s_autoneg true true) (λ lc1. ends))) (s_setup_prepared veto p)
 
   -- ---- the Watch
 
-  s_force : (reforced status megabits : ℕ) (internal : Internal) → Sound port.family is_ok (poll_force pause port reforced status megabits internal)
+  s_force : (reforced status megabits : ℕ) (internal : Internal) → Sound port.family is_ok (poll_force port.pause port reforced status megabits internal)
   s_force reforced status megabits Kr = bind (s_autoneg true true) (λ _. ends)
   s_force reforced status megabits Ixfi = bind (s_ixfi (eqb megabits 10000)) (λ _. ends)
 
   s_speed : (internal : Internal) (forced : Option ℕ) (reforced status : ℕ) (m : Option ℕ)
-      → Sound port.family is_ok (poll_speed pause port internal forced reforced status m)
+      → Sound port.family is_ok (poll_speed port.pause port internal forced reforced status m)
   s_speed internal forced reforced status None = ends
   s_speed internal forced reforced status (Some megabits) = picks (is_forced forced status) ends (s_force reforced status megabits internal)
 
-  pub s_poll : (phy : ℕ) (internal : Internal) (forced : Option ℕ) (reforced : ℕ) → Sound port.family is_ok (poll pause port phy internal forced reforced)
+  pub s_poll : (phy : ℕ) (internal : Internal) (forced : Option ℕ) (reforced : ℕ) → Sound port.family is_ok (poll port.pause port phy internal forced reforced)
   unfolding poll
   s_poll phy internal forced reforced =
       bind (s_an_link port phy)

@@ -82,41 +82,41 @@ module _ (port : Port) where
       picks down (s_down phy (Some flx))
       (bind (s_activity port 3 0 0 0 0) (λ info. picks (is_clear info.w0 0x2000000) ends (s_down phy (Some flx))))
 
-module _ (pause : ℕ) (port : Port) where
-  s_sgmii : Sound port.family is_ok (sgmii pause port)
+module _ (port : Port) where
+  s_sgmii : Sound port.family is_ok (sgmii port.pause port)
   unfolding sgmii
   s_sgmii =
-      bind (s_kr_named pause port 0x420c _ _ (omega arith))
-      (λ lc1. bind (s_kr_named pause port 0x42a0 _ _ (omega arith))
-      (λ forced. bind (s_kr_named pause port 0x5054 _ _ (omega arith))
-      (λ lane. bind (s_restart pause port) (λ _. ends))))
+      bind (s_kr_named port 0x420c _ _ (omega arith))
+      (λ lc1. bind (s_kr_named port 0x42a0 _ _ (omega arith))
+      (λ forced. bind (s_kr_named port 0x5054 _ _ (omega arith))
+      (λ lane. bind (s_restart port) (λ _. ends))))
 
-  s_sgmii_an : Sound port.family is_ok (sgmii_an pause port)
+  s_sgmii_an : Sound port.family is_ok (sgmii_an port.pause port)
   unfolding sgmii_an
   s_sgmii_an =
-      bind (s_kr_named pause port 0x420c _ _ (omega arith))
-      (λ lc1. bind (s_kr_named pause port 0x42a0 _ _ (omega arith))
-      (λ _. bind (writes_kr pause port (krm port.lan 0x420c) lc1 (on_lan port.lan 0x420c (omega arith)))
-      (λ _. bind (s_kr_named pause port 0x5054 _ _ (omega arith))
-      (λ flx. bind (s_restart pause port) (λ _. ends)))))
+      bind (s_kr_named port 0x420c _ _ (omega arith))
+      (λ lc1. bind (s_kr_named port 0x42a0 _ _ (omega arith))
+      (λ _. bind (writes_kr port (krm port.lan 0x420c) lc1 (on_lan port.lan 0x420c (omega arith)))
+      (λ _. bind (s_kr_named port 0x5054 _ _ (omega arith))
+      (λ flx. bind (s_restart port) (λ _. ends)))))
 
-  s_firmware : (phy : FirmwarePhy) (down : Bool) → Sound port.family is_ok (setup_firmware pause port phy down)
+  s_firmware : (phy : FirmwarePhy) (down : Bool) → Sound port.family is_ok (setup_firmware port.pause port phy down)
   unfolding setup_firmware
   s_firmware phy down =
       picks down (s_down port phy None)
       (bind s_sgmii_an (λ flx. bind (s_fw_link port phy.speeds) (λ d. s_linked port phy flx d)))
 
-  s_setup_prepared : (veto : Bool) (p : Prepared) → Sound port.family is_ok (setup_prepared pause port veto p)
+  s_setup_prepared : (veto : Bool) (p : Prepared) → Sound port.family is_ok (setup_prepared port.pause port veto p)
   s_setup_prepared veto nothing = ends
-  s_setup_prepared veto (x557 x) = bind (sound552.s_setup pause port veto (x552.copper x)) (λ s. ends)
+  s_setup_prepared veto (x557 x) = bind (sound552.s_setup port veto (x552.copper x)) (λ s. ends)
   s_setup_prepared veto (firmware phy reset down) = picks reset (s_vetoed port veto ends (s_firmware phy down)) ends
 
-  s_backplane : (veto : Bool) → Sound port.family is_ok (setup_backplane pause port veto)
+  s_backplane : (veto : Bool) → Sound port.family is_ok (setup_backplane port.pause port veto)
   s_backplane veto =
       bind (s_read (far 0x11178 tt tt port.family))
-      (λ sel. picks (is_clear sel 0x100000) (s_vetoed port veto ends (bind (s_autoneg pause port _ true) (λ lc1. ends))) ends)
+      (λ sel. picks (is_clear sel 0x100000) (s_vetoed port veto ends (bind (s_autoneg port _ true) (λ lc1. ends))) ends)
 
-  pub s_setup : (veto : Bool) (p : Prepared) → Sound port.family is_ok (setup pause port veto p)
+  pub s_setup : (veto : Bool) (p : Prepared) → Sound port.family is_ok (setup port.pause port veto p)
   s_setup veto p =
       picks (eqb port.device 0x15c2 || eqb port.device 0x15c3) (s_backplane veto)
       (picks (eqb port.device 0x15c6 || eqb port.device 0x15c7) (s_vetoed port veto ends s_sgmii) (s_setup_prepared veto p))

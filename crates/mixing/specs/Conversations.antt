@@ -6,7 +6,7 @@ use Rattle.reference.specs.Out.{Out}
 use Rattle.operations.specs.Request.{refused}
 use Rattle.calls.specs.Conversation.{Conv, opening, begun, step_talk}
 use Rattle.mixing.specs.Model.{Side, of_port, put, Chip, World, do_action, do_firmware, free}
-use Rattle.mixing.specs.Operations.{mixable, Asked, port_at}
+use Rattle.mixing.specs.Operations.{mixable, Asked, port_with, port_at}
 use Rattle.mixing.specs.Events.{is_ok, ends_well, word, Touch, got, wrote, touch, own_then, change, Event, begin, act, firm}
 
 -- A port's last conversation; whether each of its calls so far was refused, or ended with an answer that is no error, or still
@@ -53,7 +53,7 @@ steps f p w s d (ask a k) =
 -- refused leaves `well` as it was
 abbrev pub starts : Family → Side → Asked → Real → AtPort → Talk Out → Real
 starts f p q s d (end r) =
-    let port = port_at f p q.device in
+    let port = port_at f p q in
     let c = begun port q.what q.block in
     let well = pick (is_ok (refused port q.what q.block)) (well_then c.talk d.well) d.well in
     pick (mixable q.what) (changed p s.chip (at_port c well d.own) s.touches s) s
@@ -72,7 +72,7 @@ run_real f (e ∷ es) s = run_real f es (step_real f e s)
 -- before its first call a port has any conversation that has ended, and the chip's address counts as its own
 abbrev pub fresh : Family → (Side → Out) → Chip → Real
 fresh f before c =
-    record { chip = c; ports = λ p. at_port (opening (port_at f p 0) (end (before p))) true c.selected; touches = [] }
+    record { chip = c; ports = λ p. at_port (opening (port_with f p 0 0) (end (before p))) true c.selected; touches = [] }
 
 -- the table t, fed the touches: a write puts its word at its own address
 unfoldable pub fed : (ℕ → ℕ) → List Touch → ℕ → ℕ

@@ -7,7 +7,7 @@ use Rattle.hardware.specs.declared.Error.{Error}
 use Rattle.hardware.specs.declared.Family.{Family}
 use Rattle.hardware.specs.declared.Port.{Port}
 use Rattle.reference.specs.Out.{Out}
-use Rattle.operations.specs.Operations.{operation_with}
+use Rattle.operations.specs.Operations.{operation}
 use Rattle.operations.specs.declared.Operation.{Operation}
 use Rattle.reference.specs.Sync.{acquire_bits, release_bits}
 use Rattle.mixing.specs.Mixing.{takes}
@@ -46,5 +46,5 @@ abbrev pub ended_well : Out → Bool
 ended_well o = is_ok o.0
 
 abbrev pub Heeded : Type 0
-Heeded = (pause : ℕ) (port : Port) (what : Operation) (ws : List ℕ) → takes port what ws ≡ true
-    → Heeds port.family ended_well (operation_with pause port what ws)
+Heeded = (port : Port) (what : Operation) (ws : List ℕ) → takes port what ws ≡ true
+    → Heeds port.family ended_well (operation port what ws)

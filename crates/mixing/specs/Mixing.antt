@@ -5,7 +5,7 @@ use Rattle.hardware.specs.declared.Family.{Family}
 use Rattle.hardware.specs.declared.Port.{Port}
 use Rattle.reference.specs.Out.{Out}
 use Rattle.operations.specs.Request.{refused}
-use Rattle.operations.specs.Operations.{operation_with}
+use Rattle.operations.specs.Operations.{operation}
 use Rattle.operations.specs.declared.Operation.{Operation}
 use Rattle.mixing.specs.Model.{Side, of_port, put, free, Chip}
 use Rattle.mixing.specs.Operations.{mixable, Asked, port_at}
@@ -67,16 +67,16 @@ abbrev pub begun_if : (f : Family) (t : Talk Out) (b : Bool) → (b ≡ true →
 begun_if f t true m = Some (record { talk = t; made = m refl })
 begun_if f t false m = None
 
--- every operation taken apart, `pause`: the sideband's wait
-abbrev pub Parts : ℕ → Family → Type 0
-Parts pause f = (p : Side) (q : Asked) → takes (port_at f p q.device) q.what q.block ≡ true
-    → Made f (operation_with pause (port_at f p q.device) q.what q.block)
+-- every operation taken apart
+abbrev pub Parts : Family → Type 0
+Parts f = (p : Side) (q : Asked) → takes (port_at f p q) q.what q.block ≡ true
+    → Made f (operation (port_at f p q) q.what q.block)
 
-abbrev pub ops_of : (pause : ℕ) (f : Family) → Parts pause f → Side → Asked → Option (Begun f)
-ops_of pause f made p q =
-    begun_if f (operation_with pause (port_at f p q.device) q.what q.block) (takes (port_at f p q.device) q.what q.block) (made p q)
+abbrev pub ops_of : (f : Family) → Parts f → Side → Asked → Option (Begun f)
+ops_of f made p q =
+    begun_if f (operation (port_at f p q) q.what q.block) (takes (port_at f p q) q.what q.block) (made p q)
 
 -- demand 3: the operations can be taken apart into accesses, and however this is done, every list of events is mixed
-pub record Demand3 (pause : ℕ) (f : Family) : Type 0 where
-  pub parts : Parts pause f
-  pub mixes : (made : Parts pause f) → Mixing f (ops_of pause f made)
+pub record Demand3 (f : Family) : Type 0 where
+  pub parts : Parts f
+  pub mixes : (made : Parts f) → Mixing f (ops_of f made)

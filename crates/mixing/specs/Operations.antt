@@ -12,9 +12,10 @@ mixable (operationv.Acquire mask) = false
 mixable (operationv.Release mask) = false
 mixable _ = true
 
--- a call of `begin`, beside the port's lan: device id, operation with its arguments, host block
+-- a call of `begin`, beside the port's lan: device id, pause, operation with its arguments, host block
 pub record Asked : Type 0 where
   pub device : ℕ
+  pub pause : ℕ
   pub what : Operation
   pub block : List ℕ
 
@@ -22,5 +23,8 @@ abbrev pub number : Side → ℕ
 number lan0 = 0
 number lan1 = 1
 
-abbrev pub port_at : Family → Side → ℕ → Port
-port_at f p device = record { family = f; device = device; lan = number p }
+abbrev pub port_with : Family → Side → (device pause : ℕ) → Port
+port_with f p device pause = record { family = f; device = device; lan = number p; pause = pause }
+
+abbrev pub port_at : Family → Side → Asked → Port
+port_at f p q = port_with f p q.device q.pause

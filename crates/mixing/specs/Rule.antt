@@ -138,6 +138,6 @@ StoresTheSame f = (before : Side → Out) (bits address : ℕ) (regs : ℕ → �
     → Same f es (fresh f before (free bits address regs))
 
 -- the first of the operations taken apart, for any wait of the sideband
-abbrev pub PortsStoreTheSame : ℕ → Family → Type 0
-PortsStoreTheSame pause f = (made : Parts pause f) (bits address : ℕ) (regs : ℕ → ℕ) (es : List (Event Asked)) (p : Side)
-    → let s = run f (ops_of pause f made) es (starting (free bits address regs)) in SameNext s.chip (s.ports p)
+abbrev pub PortsStoreTheSame : Family → Type 0
+PortsStoreTheSame f = (made : Parts f) (bits address : ℕ) (regs : ℕ → ℕ) (es : List (Event Asked)) (p : Side)
+    → let s = run f (ops_of f made) es (starting (free bits address regs)) in SameNext s.chip (s.ports p)

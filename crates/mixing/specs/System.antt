@@ -16,7 +16,7 @@ pub record Caller : Type 0 where
   pub lan : ℕ
 
 abbrev pub port_of : Family → Caller → Port
-port_of f who = record { family = f; device = who.device; lan = who.lan }
+port_of f who = record { family = f; device = who.device; lan = who.lan; pause = who.pause }
 
 -- an access: one kr_read or kr_write, with the address and the word that the Rust hands it
 pub data Access : Type 0 where

@@ -30,5 +30,5 @@ pub record Tied {f : Family} (s : Sys f) (r : Real) : Type 0 where
 
 -- after every list of events the code's chip and conversations are the model's, and its touches those of the model's accesses
 abbrev pub AsTheModel : Family → Type 0
-AsTheModel f = (made : Parts 10 f) (before : Side → Out) (bits address : ℕ) (regs : ℕ → ℕ) (es : List (Event Asked))
-    → Tied (run f (ops_of 10 f made) es (starting (free bits address regs))) (run_real f es (fresh f before (free bits address regs)))
+AsTheModel f = (made : Parts f) (before : Side → Out) (bits address : ℕ) (regs : ℕ → ℕ) (es : List (Event Asked))
+    → Tied (run f (ops_of f made) es (starting (free bits address regs))) (run_real f es (fresh f before (free bits address regs)))

@@ -10,7 +10,7 @@ use Rattle.reference.specs.X552.{kr_read}
 use Rattle.calls.specs.Conversation.{opening}
 use Rattle.mixing.specs.Alone.{calm}
 use Rattle.mixing.specs.Conversations.{Real, at_port, run_real}
-use Rattle.mixing.specs.Operations.{Asked, number, port_at}
+use Rattle.mixing.specs.Operations.{Asked, number, port_with}
 use Rattle.mixing.specs.Model.{Side, lan0, lan1, Chip}
 use Rattle.mixing.specs.Events.{Event, act}
 use Rattle.mixing.specs.System.{Caller, port_of}
@@ -35,7 +35,7 @@ reading p = tried X552 (record { pause = 10; device = 0x15ad; lan = number p }) 
 abbrev pub two_reads : Chip → Real
 two_reads c = record {
   chip = c;
-  ports = λ p. at_port (opening (port_at X552 p 0x15ad) (answer valuev.Word (reading p))) true c.selected;
+  ports = λ p. at_port (opening (port_with X552 p 0x15ad 10) (answer valuev.Word (reading p))) true c.selected;
   touches = [];
 }
 

@@ -97,8 +97,8 @@ module _ (pause : ℕ) (short : pause ≤ 100) (port : Port) where
   operation_with_lem (operationv.Bringup veto) ws = of_keep [] (of_bringup veto)
   operation_with_lem (operationv.Poll w) ws = of_answer _ (of_poll pause short port w.phy w.internal w.forced w.reforced)
 
-pub operation_within : (port : Port) (what : Operation) (ws : List ℕ) → Within (operation port what ws) (actions what ws) (micros what ws)
-operation_within port what ws = operation_with_lem 10 (omega arith) port what ws
+pub operation_within : (port : Port) (what : Operation) (ws : List ℕ) → port.pause ≤ 100 → Within (operation port what ws) (actions what ws) (micros what ws)
+operation_within port what ws short = operation_with_lem port.pause short port what ws
 
 -- the counts of a conversation fit 63 bits
 pub record Fits (what : Operation) (ws : List ℕ) : Type 0 where

@@ -399,7 +399,7 @@ unfolding computing
 not_clocked = refl
 
 -- bringup. No PHY of its own, so none is found
-no_phy : of (operation (record { family = X553; device = 0x15ad; lan = 0 }) (Bringup false) []) [] ≡ ended 0 0 (Err NoPhy, [])
+no_phy : of (operation (record { family = X553; device = 0x15ad; lan = 0; pause = 10 }) (Bringup false) []) [] ≡ ended 0 0 (Err NoPhy, [])
 unfolding computing
 no_phy = refl
 

@@ -1,4 +1,4 @@
--- The words that are lent: an operation has a use for those that its request counts, and for no other
+-- The words that are lent: an operation has a use for those that its request counts, and for no other; and a request's port
 use Prim.Native.Nat.{ℕ, ◌≤◌}
 use mathlib.Core.Path.{◌≡◌, refl, ap}
 use mathlib.Core.List.{List}
@@ -67,3 +67,31 @@ only_words pause port (operationv.NvmWord word) ws = refl
 only_words pause port operationv.AfterReset ws = refl
 only_words pause port (operationv.Bringup veto) ws = refl
 only_words pause port (operationv.Poll w) ws = refl
+
+pub request_port : (port : Port) (what : Operation) (ws : List ℕ) → (request port what ws).port ≡ port
+unfolding request
+request_port port operationv.Veto ws = refl
+request_port port operationv.Link ws = refl
+request_port port (operationv.Acquire mask) ws = refl
+request_port port (operationv.Release mask) ws = refl
+request_port port operationv.Command ws = refl
+request_port port (operationv.Token take) ws = refl
+request_port port (operationv.PhyActivity asked) ws = refl
+request_port port (operationv.ReadReg phy device register) ws = refl
+request_port port (operationv.WriteReg phy device register value) ws = refl
+request_port port (operationv.Modify at) ws = refl
+request_port port (operationv.Probe phy) ws = refl
+request_port port operationv.Scan ws = refl
+request_port port (operationv.Reset phy x557) ws = refl
+request_port port (operationv.Abilities phy) ws = refl
+request_port port (operationv.Advertise asked) ws = refl
+request_port port (operationv.AnLink phy) ws = refl
+request_port port (operationv.KrRead address) ws = refl
+request_port port (operationv.KrWrite address value) ws = refl
+request_port port (operationv.KrModify c) ws = refl
+request_port port operationv.RestartAn ws = refl
+request_port port (operationv.KrAutoneg kr kx) ws = refl
+request_port port (operationv.NvmWord word) ws = refl
+request_port port operationv.AfterReset ws = refl
+request_port port (operationv.Bringup veto) ws = refl
+request_port port (operationv.Poll w) ws = refl

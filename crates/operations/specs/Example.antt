@@ -9,28 +9,28 @@ use Rattle.words.specs.Hostif.{swap_bytes}
 
 -- Ports. Copper, with an X557
 abbrev pub at552 : Port
-at552 = record { family = X552; device = 0x15ad; lan = 0 }
+at552 = record { family = X552; device = 0x15ad; lan = 0; pause = 10 }
 
 -- its other port
 abbrev pub other552 : Port
-other552 = record { family = X552; device = 0x15ad; lan = 1 }
+other552 = record { family = X552; device = 0x15ad; lan = 1; pause = 10 }
 
 abbrev pub kr552 : Port
-kr552 = record { family = X552; device = 0x15ab; lan = 0 }
+kr552 = record { family = X552; device = 0x15ab; lan = 0; pause = 10 }
 
 -- copper, with an X557
 abbrev pub at553 : Port
-at553 = record { family = X553; device = 0x15c8; lan = 1 }
+at553 = record { family = X553; device = 0x15c8; lan = 1; pause = 10 }
 
 abbrev pub backplane553 : Port
-backplane553 = record { family = X553; device = 0x15c2; lan = 0 }
+backplane553 = record { family = X553; device = 0x15c2; lan = 0; pause = 10 }
 
 abbrev pub sgmii553 : Port
-sgmii553 = record { family = X553; device = 0x15c6; lan = 0 }
+sgmii553 = record { family = X553; device = 0x15c6; lan = 0; pause = 10 }
 
 -- its PHY is the firmware's
 abbrev pub firmware553 : Port
-firmware553 = record { family = X553; device = 0x15e4; lan = 0 }
+firmware553 = record { family = X553; device = 0x15e4; lan = 0; pause = 10 }
 
 -- how it stands after so many actions and microseconds: ended with an answer, or an action is due and no reply is left
 pub data Run (A : Type 0) : Type 0 where

@@ -48,6 +48,6 @@ operation_with pause port operationv.AfterReset ws = answer nothing (after_reset
 operation_with pause port (operationv.Bringup veto) ws = keep (bringup pause port veto) []
 operation_with pause port (operationv.Poll w) ws = answer poll_value (watch.poll pause port w.phy w.internal w.forced w.reforced)
 
--- the Rust's
+-- with the port's own pause; the Rust's is 10
 abbrev pub operation : Port → Operation → List ℕ → Talk Out
-operation = operation_with 10
+operation port = operation_with port.pause port

@@ -41,6 +41,6 @@ request port (operationv.KrModify c) ws = at_kr port c.port0 (krm port.lan c.por
 request port (operationv.Poll w) ws = at_phy port w.phy 0
 request port _ ws = at_port port
 
--- 20, 21, 22, 35 or 23
+-- 20, 21, 22, 35, 23 or 32
 abbrev pub refused : Port → Operation → List ℕ → Res (Unit {0})
 refused port what ws = refusal (request port what ws)

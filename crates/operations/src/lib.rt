@@ -116,7 +116,7 @@ impl Operation {
         }
     }
 
-    // Whether the call is turned away: 20, 21, 22, 35 or 23.
+    // Whether the call is turned away: 20, 21, 22, 35, 23 or 32.
     pub fn refused(self, port: Port, block: &[u32]) -> Result<(), Error>
         ensures { refused port self block.now ≡ result }
     {

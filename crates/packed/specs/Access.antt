@@ -27,22 +27,22 @@ use Rattle.packed.specs.Packed.{get_flag, get_nothing, get_result, get_word, wor
 use Rattle.packed.specs.Sideband.{get_kr, get_kr_wanted, get_nvm, words_kr, words_kr_wanted, words_nvm}
 use Rattle.packed.specs.Sync.{get_sync, words_sync}
 
--- 4 words
+-- 5 words
 unfoldable pub words_held : Held → List ℕ
-words_held (heldv.Mdio wanted) = 1 ∷ words_wanted wanted
-words_held (heldv.Kr kr_wanted) = 2 ∷ words_kr_wanted kr_wanted
-words_held (heldv.Nvm x) = 3 ∷ x ∷ replicate 2 0
+words_held (heldv.Mdio wanted) = 1 ∷ (words_wanted wanted) ++ (0 ∷ [])
+words_held (heldv.Kr kr_call) = 2 ∷ kr_call.pause ∷ words_kr_wanted kr_call.wanted
+words_held (heldv.Nvm x) = 3 ∷ x ∷ replicate 3 0
 
 unfoldable pub get_held : List ℕ → Held
 get_held s =
     pick (eqb (word_at s 0) 1) (heldv.Mdio (get_wanted (drop 1 s))) (
-    pick (eqb (word_at s 0) 2) (heldv.Kr (get_kr_wanted (drop 1 s))) (
+    pick (eqb (word_at s 0) 2) (heldv.Kr (record { pause = (word_at s 1); wanted = (get_kr_wanted (drop 2 s)) })) (
     heldv.Nvm (word_at s 1 % 65536)))
 
 -- 7 words
 unfoldable pub words_hold_for : HoldFor → List ℕ
 words_hold_for hold_forv.Alone = 1 ∷ replicate 6 0
-words_hold_for (hold_forv.Acquiring held) = 2 ∷ (words_held held) ++ (replicate 2 0)
+words_hold_for (hold_forv.Acquiring held) = 2 ∷ (words_held held) ++ (0 ∷ [])
 words_hold_for (hold_forv.Releasing word_or_error) = 3 ∷ words_result 1 5 words_word words_error word_or_error
 
 unfoldable pub get_hold_for : List ℕ → HoldFor
@@ -105,16 +105,16 @@ get_sync_for s =
     pick (eqb (word_at s 0) 1) (sync_forv.Bits (get_bits_place (drop 1 s))) (
     sync_forv.Command (get_command_for (drop 1 s)) (get_command_place (drop 4 s)))
 
--- 8 words
+-- 9 words
 unfoldable pub words_body : Body → List ℕ
-words_body (bodyv.Mdio wanted mdio) = 1 ∷ (words_wanted wanted) ++ (words_mdio mdio)
-words_body (bodyv.Kr kr_wanted kr) = 2 ∷ (words_kr_wanted kr_wanted) ++ (words_kr kr)
-words_body (bodyv.Nvm nvm) = 3 ∷ (words_nvm nvm) ++ (replicate 2 0)
+words_body (bodyv.Mdio wanted mdio) = 1 ∷ (words_wanted wanted) ++ ((words_mdio mdio) ++ (0 ∷ []))
+words_body (bodyv.Kr kr_call kr) = 2 ∷ kr_call.pause ∷ (words_kr_wanted kr_call.wanted) ++ (words_kr kr)
+words_body (bodyv.Nvm nvm) = 3 ∷ (words_nvm nvm) ++ (replicate 3 0)
 
 unfoldable pub get_body : List ℕ → Body
 get_body s =
     pick (eqb (word_at s 0) 1) (bodyv.Mdio (get_wanted (drop 1 s)) (get_mdio (drop 4 s))) (
-    pick (eqb (word_at s 0) 2) (bodyv.Kr (get_kr_wanted (drop 1 s)) (get_kr (drop 4 s))) (
+    pick (eqb (word_at s 0) 2) (bodyv.Kr (record { pause = (word_at s 1); wanted = (get_kr_wanted (drop 2 s)) }) (get_kr (drop 5 s))) (
     bodyv.Nvm (get_nvm (drop 1 s))))
 
 -- 22 words
@@ -124,7 +124,7 @@ words_access_place access_placev.Writing = 2 ∷ replicate 21 0
 words_access_place access_placev.Waiting = 3 ∷ replicate 21 0
 words_access_place (access_placev.Sync sync_for sync) = 4 ∷ (words_sync_for sync_for) ++ (words_sync sync)
 words_access_place (access_placev.Exchange command_for exchange) = 5 ∷ (words_command_for command_for) ++ ((words_exchange exchange) ++ (replicate 13 0))
-words_access_place (access_placev.Body body) = 6 ∷ (words_body body) ++ (replicate 13 0)
+words_access_place (access_placev.Body body) = 6 ∷ (words_body body) ++ (replicate 12 0)
 words_access_place (access_placev.Pausing x) = 7 ∷ x ∷ replicate 20 0
 
 unfoldable pub get_access_place : List ℕ → AccessPlace

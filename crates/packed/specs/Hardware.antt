@@ -25,6 +25,7 @@ words_error errorv.Fiber = 11 ∷ replicate 4 0
 words_error errorv.Address = 12 ∷ replicate 4 0
 words_error errorv.KrAddress = 13 ∷ replicate 4 0
 words_error errorv.Block = 14 ∷ replicate 4 0
+words_error errorv.Pause = 15 ∷ replicate 4 0
 
 unfoldable pub get_error : List ℕ → Error
 get_error s =
@@ -41,7 +42,8 @@ get_error s =
     pick (eqb (word_at s 0) 11) (errorv.Fiber) (
     pick (eqb (word_at s 0) 12) (errorv.Address) (
     pick (eqb (word_at s 0) 13) (errorv.KrAddress) (
-    errorv.Block)))))))))))))
+    pick (eqb (word_at s 0) 14) (errorv.Block) (
+    errorv.Pause))))))))))))))
 
 -- 1 words
 unfoldable pub words_family : Family → List ℕ

@@ -10,7 +10,7 @@ use access::place::{
 };
 use hostif::exchange::Exchange;
 use mdio::mdio::{Mdio, Wanted};
-use sideband::kr_access::{Kr, KrWanted};
+use sideband::kr_access::{Kr, KrCall, KrWanted};
 use sideband::nvm::Nvm;
 use sync::sync::Sync;
 
@@ -20,20 +20,22 @@ impl Packed for Held {
     ghost read = { get_held };
 
     #[tactic(auto, unfolding(crate::specs::Access::words_held, crate::specs::Access::get_held, crate::specs::Tape::word_at))]
-    fn put(self, tape: &mut [u32; 65], at: usize) -> usize {
+    fn put(self, tape: &mut [u32; 66], at: usize) -> usize {
         match self {
             Held::Mdio(wanted) => {
                 let at = word(tape, at, 1);
-                wanted.put(tape, at)
+                let at = wanted.put(tape, at);
+                word(tape, at, 0)
             },
-            Held::Kr(kr_wanted) => {
+            Held::Kr(kr_call) => {
                 let at = word(tape, at, 2);
-                kr_wanted.put(tape, at)
+                let at = word(tape, at, kr_call.pause);
+                kr_call.wanted.put(tape, at)
             },
             Held::Nvm(x) => {
                 let at = word(tape, at, 3);
                 let at = word(tape, at, wide(x));
-                zeros(tape, at, 2)
+                zeros(tape, at, 3)
             },
         }
     }
@@ -44,7 +46,10 @@ impl Packed for Held {
         if kind == 1 {
             Held::Mdio(Wanted::get(tape, after(tape, at, 1)))
         } else if kind == 2 {
-            Held::Kr(KrWanted::get(tape, after(tape, at, 1)))
+            Held::Kr(KrCall {
+                pause: word_at(tape, at, 1),
+                wanted: KrWanted::get(tape, after(tape, at, 2)),
+            })
         } else {
             Held::Nvm(half(word_at(tape, at, 1)))
         }
@@ -57,7 +62,7 @@ impl Packed for HoldFor {
     ghost read = { get_hold_for };
 
     #[tactic(auto, unfolding(crate::specs::Access::words_hold_for, crate::specs::Access::get_hold_for, crate::specs::Tape::word_at))]
-    fn put(self, tape: &mut [u32; 65], at: usize) -> usize {
+    fn put(self, tape: &mut [u32; 66], at: usize) -> usize {
         match self {
             HoldFor::Alone => {
                 let at = word(tape, at, 1);
@@ -66,7 +71,7 @@ impl Packed for HoldFor {
             HoldFor::Acquiring(held) => {
                 let at = word(tape, at, 2);
                 let at = held.put(tape, at);
-                zeros(tape, at, 2)
+                word(tape, at, 0)
             },
             HoldFor::Releasing(word_or_error) => {
                 let at = word(tape, at, 3);
@@ -94,7 +99,7 @@ impl Packed for BitsPlace {
     ghost read = { get_bits_place };
 
     #[tactic(auto, unfolding(crate::specs::Access::words_bits_place, crate::specs::Access::get_bits_place, crate::specs::Tape::word_at))]
-    fn put(self, tape: &mut [u32; 65], at: usize) -> usize {
+    fn put(self, tape: &mut [u32; 66], at: usize) -> usize {
         match self {
             BitsPlace::Plain => {
                 let at = word(tape, at, 1);
@@ -139,7 +144,7 @@ impl Packed for TokenPlace {
     ghost read = { get_token_place };
 
     #[tactic(auto, using(crate::proofs::Laws::word_then), unfolding(crate::specs::Access::words_token_place, crate::specs::Access::get_token_place, crate::specs::Tape::word_at))]
-    fn put(self, tape: &mut [u32; 65], at: usize) -> usize {
+    fn put(self, tape: &mut [u32; 66], at: usize) -> usize {
         match self {
             TokenPlace::Taking(x) => {
                 let at = word(tape, at, 1);
@@ -169,7 +174,7 @@ impl Packed for CommandFor {
     ghost read = { get_command_for };
 
     #[tactic(auto, using(crate::proofs::Laws::word_then, crate::proofs::Laws::joined_back), unfolding(crate::specs::Access::words_command_for, crate::specs::Access::get_command_for, crate::specs::Tape::word_at))]
-    fn put(self, tape: &mut [u32; 65], at: usize) -> usize {
+    fn put(self, tape: &mut [u32; 66], at: usize) -> usize {
         match self {
             CommandFor::Job(x) => {
                 let at = word(tape, at, 1);
@@ -199,7 +204,7 @@ impl Packed for CommandPlace {
     ghost read = { get_command_place };
 
     #[tactic(auto, using(crate::proofs::Laws::word_then), unfolding(crate::specs::Access::words_command_place, crate::specs::Access::get_command_place, crate::specs::Tape::word_at))]
-    fn put(self, tape: &mut [u32; 65], at: usize) -> usize {
+    fn put(self, tape: &mut [u32; 66], at: usize) -> usize {
         match self {
             CommandPlace::Acquiring => {
                 let at = word(tape, at, 1);
@@ -229,7 +234,7 @@ impl Packed for SyncFor {
     ghost read = { get_sync_for };
 
     #[tactic(auto, unfolding(crate::specs::Access::words_sync_for, crate::specs::Access::get_sync_for, crate::specs::Tape::word_at))]
-    fn put(self, tape: &mut [u32; 65], at: usize) -> usize {
+    fn put(self, tape: &mut [u32; 66], at: usize) -> usize {
         match self {
             SyncFor::Bits(bits_place) => {
                 let at = word(tape, at, 1);
@@ -264,22 +269,24 @@ impl Packed for Body {
     ghost read = { get_body };
 
     #[tactic(auto, unfolding(crate::specs::Access::words_body, crate::specs::Access::get_body, crate::specs::Tape::word_at))]
-    fn put(self, tape: &mut [u32; 65], at: usize) -> usize {
+    fn put(self, tape: &mut [u32; 66], at: usize) -> usize {
         match self {
             Body::Mdio(wanted, mdio) => {
                 let at = word(tape, at, 1);
                 let at = wanted.put(tape, at);
-                mdio.put(tape, at)
+                let at = mdio.put(tape, at);
+                word(tape, at, 0)
             },
-            Body::Kr(kr_wanted, kr) => {
+            Body::Kr(kr_call, kr) => {
                 let at = word(tape, at, 2);
-                let at = kr_wanted.put(tape, at);
+                let at = word(tape, at, kr_call.pause);
+                let at = kr_call.wanted.put(tape, at);
                 kr.put(tape, at)
             },
             Body::Nvm(nvm) => {
                 let at = word(tape, at, 3);
                 let at = nvm.put(tape, at);
-                zeros(tape, at, 2)
+                zeros(tape, at, 3)
             },
         }
     }
@@ -294,8 +301,11 @@ impl Packed for Body {
             )
         } else if kind == 2 {
             Body::Kr(
-                KrWanted::get(tape, after(tape, at, 1)),
-                Kr::get(tape, after(tape, at, 4)),
+                KrCall {
+                    pause: word_at(tape, at, 1),
+                    wanted: KrWanted::get(tape, after(tape, at, 2)),
+                },
+                Kr::get(tape, after(tape, at, 5)),
             )
         } else {
             Body::Nvm(Nvm::get(tape, after(tape, at, 1)))
@@ -309,7 +319,7 @@ impl Packed for AccessPlace {
     ghost read = { get_access_place };
 
     #[tactic(auto, unfolding(crate::specs::Access::words_access_place, crate::specs::Access::get_access_place, crate::specs::Tape::word_at))]
-    fn put(self, tape: &mut [u32; 65], at: usize) -> usize {
+    fn put(self, tape: &mut [u32; 66], at: usize) -> usize {
         match self {
             AccessPlace::Reading => {
                 let at = word(tape, at, 1);
@@ -337,7 +347,7 @@ impl Packed for AccessPlace {
             AccessPlace::Body(body) => {
                 let at = word(tape, at, 6);
                 let at = body.put(tape, at);
-                zeros(tape, at, 13)
+                zeros(tape, at, 12)
             },
             AccessPlace::Pausing(x) => {
                 let at = word(tape, at, 7);

@@ -18,7 +18,7 @@ impl Packed for Step<Action, Op, Ended<Value>> {
     ghost read = { get_place };
 
     #[tactic(auto, using(crate::proofs::Laws::is_flag, crate::proofs::Laws::joined_back), unfolding(crate::specs::Started::words_place, crate::specs::Started::get_place, crate::specs::Tape::word_at))]
-    fn put(self, tape: &mut [u32; 65], at: usize) -> usize {
+    fn put(self, tape: &mut [u32; 66], at: usize) -> usize {
         match self {
             Step::Done(ended) => {
                 let at = word(tape, at, 1);

@@ -4,7 +4,6 @@ pub mod Lowest
 pub mod Ends
 pub mod Failing
 pub mod Elements
-pub mod DecimalLaws
 pub mod KeptLaws
 pub mod Theorems
 pub mod Session

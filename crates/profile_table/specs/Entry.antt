@@ -1,10 +1,10 @@
 -- What a line says: nothing, a row, or a look-up
-use Rattle.std.specs.Prelude.{ℕ, cond, List, [], ◌∷◌, map, drop, ◌<◌, eqb, Option, Some, None, codes}
+use Rattle.std.specs.Prelude.{ℕ, cond, List, [], ◌∷◌, leb, length, map, drop, ◌<◌, eqb, Option, Some, None, codes}
 use Rattle.std.specs.Option.{option_map}
 use Rattle.text.specs.Words.{words}
 use Rattle.text.specs.Hex.{hex_word}
 use Rattle.text.specs.Same.{same}
-use Rattle.profile_table.specs.Decimal.{decimal_word}
+use Rattle.text.specs.Decimal.{at_most, decimal_number}
 use Rattle.profile_table.specs.Rows.{row}
 use Rattle.profile_table.specs.declared.row.Row.{Row}
 use Rattle.profile_table.specs.declared.entry.Entry.{Entry}
@@ -30,8 +30,12 @@ first_field read (w ∷ ws) = option_map (λ v. (v, ws)) (read w)
 abbrev pub hex_field : Fields → Option (ℕ × Fields)
 hex_field ws = first_field (hex_word 4 4) ws
 
+-- a profile: one to three decimal digits, at most 255
+unfoldable pub profile_word : List ℕ → Option ℕ
+profile_word word = cond (leb (length word) 3) (at_most 255 (decimal_number word)) None
+
 abbrev pub decimal_field : Fields → Option (ℕ × Fields)
-decimal_field ws = first_field decimal_word ws
+decimal_field ws = first_field profile_word ws
 
 -- x, where no field is left
 abbrev pub last_of : {X : Type 0} → X → Fields → Option X

@@ -3,7 +3,6 @@ pub mod Fault
 pub mod Table
 pub mod Search
 pub mod Taken
-pub mod Decimal
 pub mod Entry
 pub mod Answer
 pub mod Turn

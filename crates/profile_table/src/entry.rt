@@ -2,10 +2,10 @@
 ghost use Rattle.std.specs.Prelude.{◌≡◌, drop, map};
 ghost use Rattle.text.specs.Words.{words};
 ghost use Rattle.streams.specs.Part.{part_of};
-ghost use Rattle.profile_table.specs.Entry.{blank, fields, hex_field, decimal_field, left_of, IsShort, row_entry, look_entry, entry_of};
+ghost use Rattle.profile_table.specs.Entry.{blank, fields, hex_field, decimal_field, left_of, profile_word, IsShort, row_entry, look_entry, entry_of};
 
-use crate::decimal::decimal;
 use crate::row::Row;
+use text::decimal::number;
 use text::{hex, is, word};
 
 #[derive(Clone, Copy)]
@@ -42,12 +42,26 @@ fn hex_field(line: &[u8], at: usize) -> Option<(u32, usize)>
     Some((value, end))
 }
 
+#[tactic(auto, unfolding(crate::specs::Entry::profile_word))]
+fn profile(word: &[u8]) -> Option<u32>
+    ensures { profile_word word.now ≡ result }
+{
+    if word.len() > 3 {
+        return None;
+    }
+    let v = number(word)?;
+    if v > 255 {
+        return None;
+    }
+    Some(v as u32)
+}
+
 #[tactic(auto, using(text::proofs::PartLaws::part_slice))]
 fn decimal_field(line: &[u8], at: usize) -> Option<(u32, usize)>
     ensures { decimal_field (words (drop at line.now)) ≡ left_of line.now result }
 {
     let (start, end) = word(line, at)?;
-    let value = decimal(line.get(start..end)?)?;
+    let value = profile(line.get(start..end)?)?;
     Some((value, end))
 }
 

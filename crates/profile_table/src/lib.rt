@@ -3,7 +3,6 @@
 #![tactic(auto)]
 
 pub mod answer;
-pub mod decimal;
 pub mod entry;
 pub mod fault;
 pub mod kept;

@@ -5,3 +5,5 @@ pub mod Prepare
 pub mod Closures
 pub mod Within
 pub mod Bounds
+pub mod Alike
+pub mod Pauses

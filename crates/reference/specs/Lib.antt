@@ -9,3 +9,4 @@ pub mod Watch
 pub mod Out
 pub mod Bringup
 pub mod Closures
+pub mod Pauses

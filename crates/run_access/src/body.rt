@@ -6,8 +6,6 @@ ghost use Rattle.drive.specs.Moves.{tape, Moves};
 use access::body::Body;
 use drive::{Host, machine};
 use hardware::{Action, Error, Step};
-use sideband::idle::Idle;
-use sideband::kr_access::KrCall;
 
 // MDIO cycles and the sideband's as far as they go; the NVM's command stays where it is.
 #[tactic(auto, using(drive::specs::Moves::stays))]
@@ -25,13 +23,9 @@ pub fn run(
             let step = machine::run(m, a, wanted, h, replies, t);
             Body::mdio(wanted, step)
         }
-        Body::Kr(wanted, m) => {
-            let call = KrCall {
-                pause: Idle::PAUSE,
-                wanted,
-            };
+        Body::Kr(call, m) => {
             let step = machine::run(m, a, call, h, replies, t);
-            Body::kr(wanted, step)
+            Body::kr(call, step)
         }
         Body::Nvm(_) => Step::Ask(a, s),
     }

@@ -2,7 +2,7 @@
 use Rattle.std.specs.Prelude.{ℕ, cond, List, [], ◌∷◌, eqb, Option, Some, None, codes}
 use Rattle.text.specs.Hex.{hex_word}
 use Rattle.text.specs.Same.{same}
-use Rattle.profile_table.specs.Decimal.{decimal_number}
+use Rattle.text.specs.Decimal.{decimal_number}
 use Rattle.profile_table.specs.Entry.{Fields, first_field, last_of, onward}
 use Rattle.settings_lines.specs.declared.entry.Entry.{Entry}
 use Rattle.settings_lines.specs.declared.entry.Entry.TheVariants.{Blank, Load, Store, Newest, Named, Show}

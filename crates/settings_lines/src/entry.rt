@@ -5,7 +5,7 @@ ghost use Rattle.profile_table.specs.Entry.{left_of, last_of};
 ghost use Rattle.settings_lines.specs.Entry.{lan_field, number_field, veto_field, store_entry, newest_entry, named_entry, entry_of};
 ghost use Rattle.settings_lines.specs.declared.entry.Entry.TheVariants.{Show};
 
-use profile_table::decimal::number;
+use text::decimal::number;
 use text::{hex, is, word};
 
 #[derive(Clone, Copy)]

@@ -19,9 +19,6 @@ impl Idle {
 
     pub const BUSY: u32 = 0x8000_0000;
 
-    // The Rust's wait between two reads, in microseconds.
-    pub const PAUSE: u32 = 10;
-
     #[tactic(auto, using(hardware::proofs::Laws::carry_more, hardware::proofs::Laws::carry_none))]
     fn again(pause: u32, left: u32, last: u32) -> Step<Action, Idle, Result<u32, Error>>
         ensures { told_idle pause result ≡ iosf_times pause left last }

@@ -3,6 +3,7 @@ pub mod WordLaws
 pub mod PartLaws
 pub mod HexBound
 pub mod HexLaws
+pub mod DecimalLaws
 pub mod SameLaws
 pub mod PutLaws
 pub mod DigitLaws

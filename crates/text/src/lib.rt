@@ -1,6 +1,8 @@
 // Lines of text as slices of bytes: where a line ends, its words, hexadecimal words, and numbers written as text.
 #![tactic(auto)]
 
+pub mod decimal;
+
 ghost use Rattle.std.specs.Prelude.{◌≤◌, ◌<◌, ◌≡◌, ◌==◌, not, length, drop, position};
 ghost use Rattle.text.specs.Lines.{line_end, bare, Ahead};
 ghost use Rattle.text.specs.Words.{is_blank, words, found, Inside};

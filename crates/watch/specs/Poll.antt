@@ -19,16 +19,16 @@ use Rattle.arguments.specs.declared.Watch.{Watch}
 
 -- the Rust's functions, of this Watch
 abbrev pub poll_of : Port → Watch → Call reference.Polled
-poll_of port w = poll 10 port w.phy w.internal w.forced w.reforced
+poll_of port w = poll port.pause port w.phy w.internal w.forced w.reforced
 
 abbrev pub same_of : Watch → Copper → Call reference.Polled
 same_of w seen = polled seen w.forced w.reforced
 
 abbrev pub force_of : Port → Watch → ℕ → ℕ → Call reference.Polled
-force_of port w status megabits = poll_force 10 port w.reforced status megabits w.internal
+force_of port w status megabits = poll_force port.pause port w.reforced status megabits w.internal
 
 abbrev pub speed_of : Port → Watch → ℕ → Call reference.Polled
-speed_of port w status = poll_speed 10 port w.internal w.forced w.reforced status (words.copper status)
+speed_of port w status = poll_speed port.pause port w.internal w.forced w.reforced status (words.copper status)
 
 -- what comes after each of its parts
 abbrev pub force_then : Watch → ℕ → ℕ → Call ℕ → Call reference.Polled
@@ -38,7 +38,7 @@ abbrev pub second_then : Port → Watch → ℕ → Call Bool → Call reference
 second_then port w status t = t >>= λ up. pick up (speed_of port w status) (poll_down w.reforced)
 
 abbrev pub first_then : Port → Watch → Call Bool → Call reference.Polled
-first_then port w t = t >>= λ up. pick up (poll_up 10 port w.phy w.internal w.forced w.reforced) (poll_down w.reforced)
+first_then port w t = t >>= λ up. pick up (poll_up port.pause port w.phy w.internal w.forced w.reforced) (poll_down w.reforced)
 
 abbrev pub got_status : Port → Watch → Res ℕ → Call reference.Polled
 got_status port w got = end got >>= λ v. second_then port w (v % 8) (an_link port w.phy)

@@ -41,7 +41,7 @@ abbrev pub ixfi_then : CopperCall → Speeds → Call ℕ → Call CopperSetup
 ixfi_then call s t = t >> times_of call s 10
 
 abbrev pub got_abilities : CopperCall → Res ℕ → Call CopperSetup
-got_abilities call got = end got >>= λ v. copper_able 10 call.managed.port call.managed.veto call.x557 (without100 (speeds_of v))
+got_abilities call got = end got >>= λ v. copper_able call.managed.port.pause call.managed.port call.managed.veto call.x557 (without100 (speeds_of v))
 
 abbrev pub got_wait : CopperCall → Speeds → ℕ → Res ℕ → Call CopperSetup
 got_wait call s n got = end got >>= λ _. (read 0x42a4 >>= λ links. links_then call s n links)

@@ -161,7 +161,7 @@ impl CopperLink {
 
     #[tactic(auto, using(hardware::proofs::Laws::then_assoc), unfolding(reference::specs::X552::ixfi))]
     fn able(call: CopperCall, speeds: Speeds) -> Step<Job, CopperLink, Result<CopperSetup, Error>>
-        ensures { (b : List ℕ) → told_link call b result ≡ copper_able 10 call.managed.port call.managed.veto call.x557 speeds }
+        ensures { (b : List ℕ) → told_link call b result ≡ copper_able call.managed.port.pause call.managed.port call.managed.veto call.x557 speeds }
     {
         match call.x557.internal {
             Internal::Kr => CopperLink::advertise(call, speeds),
@@ -174,7 +174,7 @@ impl CopperLink {
 
     #[tactic(auto, using(hardware::proofs::Laws::then_assoc, reference::proofs::Laws::bind_assoc), unfolding(reference::specs::X552::copper_link, reference::specs::Mdio::abilities))]
     pub fn start(call: CopperCall) -> Step<Job, CopperLink, Result<CopperSetup, Error>>
-        ensures { (b : List ℕ) → told_link call b result ≡ copper_link 10 call.managed.port call.managed.veto call.x557 }
+        ensures { (b : List ℕ) → told_link call b result ≡ copper_link call.managed.port.pause call.managed.port call.managed.veto call.x557 }
     {
         Step::Ask(
             Job::ReadReg(call.x557.phy as u32, Register::PMA, Register::SPEEDS),

@@ -28,5 +28,5 @@ module _ (port : Port) (phy : FirmwarePhy) where
   unfolding setup_fw_link
   reset_place = ap (λ (t : Call x553.Prepared). phy_activity port 5 0 0 0 0 >> (phy_activity port 1 0 0 0 0 >> t)) (sym (fw_link (λ down. return (firmware phy true down))))
 
-  pub up_link : internal_then port phy (sgmii_an 10 port) ≡ firmware_up 10 port phy
-  up_link = ap (λ (k : ℕ → Call Setup553). sgmii_an 10 port >>= k) (fun_ext (λ flx. sym (fw_link (firmware_linked port phy flx))))
+  pub up_link : internal_then port phy (sgmii_an port.pause port) ≡ firmware_up port.pause port phy
+  up_link = ap (λ (k : ℕ → Call Setup553). sgmii_an port.pause port >>= k) (fun_ext (λ flx. sym (fw_link (firmware_linked port phy flx))))

@@ -30,7 +30,7 @@ link_info_of = no_data 3
 
 -- the Rust's function, of what was prepared
 abbrev pub prepared_of : Managed → FirmwarePrepared → Call Setup553
-prepared_of managed p = setup_prepared 10 managed.port managed.veto (firmware p.phy p.reset p.down)
+prepared_of managed p = setup_prepared managed.port.pause managed.port managed.veto (firmware p.phy p.reset p.down)
 
 -- what comes after each of its parts
 abbrev pub down_then : FirmwarePhy → Option ℕ → Call Words → Call Setup553
@@ -54,7 +54,7 @@ internal_then port phy t = t >>= λ flx. link_then port phy flx (activity_of por
 
 abbrev pub got_mmngc : Port → FirmwarePhy → Bool → Res ℕ → Call Setup553
 got_mmngc port phy down got =
-    end got >>= λ mmngc. pick (is_clear mmngc 1) (setup_firmware 10 port phy down) (firmware_set phy None false)
+    end got >>= λ mmngc. pick (is_clear mmngc 1) (setup_firmware port.pause port phy down) (firmware_set phy None false)
 
 abbrev pub resume_firmware : Port → SetupFirmware → Res ℕ → List ℕ → Call Setup553
 resume_firmware port (firmwarev.Mmngc phy down) got ws = got_mmngc port phy down got

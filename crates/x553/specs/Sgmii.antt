@@ -31,7 +31,7 @@ abbrev pub restart_then : SgmiiSetup → Call ℕ → Call Setup553
 restart_then set t = t >> return (setup.Sgmii set)
 
 abbrev pub lane_then : Port → ℕ → ℕ → Call ℕ → Call Setup553
-lane_then port lc1 forced t = t >>= λ lane. restart_then (record { link_ctrl = lc1; sgmii = forced; flx = lane }) (restart_an 10 port)
+lane_then port lc1 forced t = t >>= λ lane. restart_then (record { link_ctrl = lc1; sgmii = forced; flx = lane }) (restart_an port.pause port)
 
 abbrev pub force_then : Port → ℕ → Call ℕ → Call Setup553
 force_then port lc1 t = t >>= λ forced. lane_then port lc1 forced (modify_of port lane_of)

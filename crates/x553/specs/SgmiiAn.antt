@@ -29,11 +29,11 @@ abbrev pub restart_then : ℕ → Call ℕ → Call ℕ
 restart_then flx t = t >> return flx
 
 abbrev pub lane_then : Port → Call ℕ → Call ℕ
-lane_then port t = t >>= λ flx. restart_then flx (restart_an 10 port)
+lane_then port t = t >>= λ flx. restart_then flx (restart_an port.pause port)
 
 -- LINK_CTRL_1 is written again, as it was written first
 abbrev pub force_then : Port → ℕ → Call ℕ → Call ℕ
-force_then port lc1 t = t >> (kr_write 10 port (krm port.lan 0x420c) lc1 >> lane_then port (modify_of port lane_of))
+force_then port lc1 t = t >> (kr_write port.pause port (krm port.lan 0x420c) lc1 >> lane_then port (modify_of port lane_of))
 
 abbrev pub ctrl_then : Port → Call ℕ → Call ℕ
 ctrl_then port t = t >>= λ lc1. force_then port lc1 (modify_of port force_of)

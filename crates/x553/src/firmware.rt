@@ -187,7 +187,7 @@ impl SetupFirmware {
         down: bool,
         block: &mut [u32; 16],
     ) -> Step<Job, SetupFirmware, Result<FirmwareSetup, Error>>
-        ensures { told_firmware port block.new result ≡ setup_firmware 10 port phy down }
+        ensures { told_firmware port block.new result ≡ setup_firmware port.pause port phy down }
     {
         if down {
             return SetupFirmware::down(port, phy, None, block);

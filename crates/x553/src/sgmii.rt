@@ -116,7 +116,7 @@ impl Sgmii {
 
     #[tactic(auto, using(hardware::proofs::Laws::then_assoc), unfolding(reference::specs::X553::sgmii))]
     pub fn start(port: Port) -> Step<Job, Sgmii, Result<SgmiiSetup, Error>>
-        ensures { (b : List ℕ) → told_sgmii port b result ≡ sgmii 10 port }
+        ensures { (b : List ℕ) → told_sgmii port b result ≡ sgmii port.pause port }
     {
         let step = KrModify::start(Sgmii::ctrl(), port);
         Sgmii::after_ctrl(port, step)

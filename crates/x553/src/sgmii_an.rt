@@ -126,7 +126,7 @@ impl SgmiiAn {
 
     #[tactic(auto, using(hardware::proofs::Laws::then_assoc), unfolding(reference::specs::X553::sgmii_an))]
     pub fn start(port: Port) -> Step<Job, SgmiiAn, Result<u32, Error>>
-        ensures { (b : List ℕ) → told_sgmii_an port b result ≡ sgmii_an 10 port }
+        ensures { (b : List ℕ) → told_sgmii_an port b result ≡ sgmii_an port.pause port }
     {
         let step = KrModify::start(SgmiiAn::ctrl(), port);
         SgmiiAn::after_ctrl(port, step)

@@ -13,26 +13,38 @@ fn number(word: &[u8], lengths: RangeInclusive<usize>) -> Option<u32> {
     if is_number { u32::from_str_radix(digits, 16).ok() } else { None }
 }
 
+/// A number of one to ten decimal digits that fits 32 bits.
+fn decimal(word: &[u8]) -> Option<u32> {
+    let digits = std::str::from_utf8(word).ok()?;
+    let is_number = (1..=10).contains(&digits.len()) && digits.bytes().all(|digit| digit.is_ascii_digit());
+    if is_number { digits.parse().ok() } else { None }
+}
+
 /// A word of just eight digits.
 pub fn word(word: &[u8]) -> Option<u32> {
     number(word, 8..=8)
 }
 
-/// A port as the first line has it: its lan may still be refused.
+/// A port as the first line has it: its lan may still be refused, and its pause, which the Rust does not have.
 pub struct PortLine {
     pub family: Family,
     pub device: u16,
     pub lan: u32,
+    pub pause: u32,
 }
 
 pub fn port(line: &[u8]) -> Option<PortLine> {
-    let [b"port", family, device, lan] = words(line)[..] else { return None };
+    let (family, device, lan, pause) = match words(line)[..] {
+        [b"port", family, device, lan] => (family, device, lan, Some(10)),
+        [b"port", family, device, lan, pause] => (family, device, lan, decimal(pause)),
+        _ => return None,
+    };
     let family = match family {
         b"X552" => Family::X552,
         b"X553" => Family::X553,
         _ => return None,
     };
-    Some(PortLine { family, device: number(device, 4..=4)? as u16, lan: number(lan, 1..=8)? })
+    Some(PortLine { family, device: number(device, 4..=4)? as u16, lan: number(lan, 1..=8)?, pause: pause? })
 }
 
 /// A reply: what was read (of no meaning after a write), or the code of a failure.

@@ -29,9 +29,9 @@ use Rattle.packed.proofs.Width.Mdio.{mdio_length, wanted_length}
 use Rattle.packed.proofs.Width.Sideband.{kr_length, kr_wanted_length, nvm_length}
 use Rattle.packed.proofs.Width.Sync.{sync_length}
 
-pub held_length : (s : Held) → length (words_held s) ≡ 4
+pub held_length : (s : Held) → length (words_held s) ≡ 5
 unfolding words_held
-held_length (heldv.Mdio x0) = simp wanted_length
+held_length (heldv.Mdio x0) = simp (length-append, wanted_length)
 held_length (heldv.Kr x0) = simp kr_wanted_length
 held_length (heldv.Nvm x0) = refl
 
@@ -77,7 +77,7 @@ sync_for_length (sync_forv.Command x0 x1) = simp (length-append, command_for_len
 pub drop_sync_for : (s : SyncFor) (rest : List ℕ) → drop 11 (words_sync_for s ++ rest) ≡ rest
 drop_sync_for s rest = drop_at (words_sync_for s) rest 11 (sync_for_length s)
 
-pub body_length : (s : Body) → length (words_body s) ≡ 8
+pub body_length : (s : Body) → length (words_body s) ≡ 9
 unfolding words_body
 body_length (bodyv.Mdio x0 x1) = simp (length-append, wanted_length, mdio_length)
 body_length (bodyv.Kr x0 x1) = simp (length-append, kr_wanted_length, kr_length)

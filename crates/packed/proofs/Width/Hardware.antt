@@ -31,6 +31,7 @@ error_length errorv.Fiber = refl
 error_length errorv.Address = refl
 error_length errorv.KrAddress = refl
 error_length errorv.Block = refl
+error_length errorv.Pause = refl
 
 pub family_length : (s : Family) → length (words_family s) ≡ 1
 unfolding words_family

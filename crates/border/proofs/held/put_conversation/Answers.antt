@@ -9,8 +9,8 @@ use Rattle.border.proofs.held.put_conversation.Goals as goal
 pub returns-clause-written : goal.returns-clause-written
 unfolding words_of
 returns-clause-written c = filled (c.told-tape ∙ sym (words_of-length c.args.c))
-    (then (rw c.wide.ensures.same at c.word-at.ensures) (then c.word-at-2.ensures (then c.long-at.ensures
-    (then c.long-at-2.ensures (then c.put-at.ensures.adds c.put.ensures.adds)))))
+    (then (rw c.wide.ensures.same at c.word-at.ensures) (then c.word-at-2.ensures (then c.word-at-3.ensures (then c.long-at.ensures
+    (then c.long-at-2.ensures (then c.put-at.ensures.adds c.put.ensures.adds))))))
 
 pub returns-clause-back : goal.returns-clause-back
 unfolding words_of conversation_of word_at

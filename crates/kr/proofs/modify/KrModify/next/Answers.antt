@@ -8,4 +8,4 @@ pub returns-in-Reading-Ok : goal.returns-in-Reading-Ok
 returns-in-Reading-Ok c = λ b. let args = c.args in
     let value = changed args.change.keep args.change.set c.in-Reading-Ok.v in
     simp (c.in-Reading-Ok.is-0, c.in-Reading-Ok.is-1, c.krm-address.ensures)
-    (wrote (kr_write 10 args.port c.krm-address.result value) (return value))
+    (wrote (kr_write args.port.pause args.port c.krm-address.result value) (return value))

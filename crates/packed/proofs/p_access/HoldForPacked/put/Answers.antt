@@ -10,7 +10,7 @@ returns-in-Alone-clause-adds c = rw c.in-Alone.is (then c.word-at.ensures c.zero
 
 pub returns-in-Acquiring-clause-adds : goal.returns-in-Acquiring-clause-adds
 unfolding words_hold_for
-returns-in-Acquiring-clause-adds c = rw c.in-Acquiring.is (then c.word-at-in-Acquiring.ensures (then c.put-at.ensures.adds c.zeros-in-Acquiring.ensures))
+returns-in-Acquiring-clause-adds c = rw c.in-Acquiring.is (then c.word-at-in-Acquiring.ensures (then c.put-at.ensures.adds c.word.ensures))
 
 pub returns-in-Acquiring-clause-back : goal.returns-in-Acquiring-clause-back
 unfolding words_hold_for get_hold_for word_at

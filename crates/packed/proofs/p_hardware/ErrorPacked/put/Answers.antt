@@ -57,3 +57,7 @@ returns-in-KrAddress-clause-adds c = rw c.in-KrAddress.is (then c.word-at-in-KrA
 pub returns-in-Block-clause-adds : goal.returns-in-Block-clause-adds
 unfolding words_error
 returns-in-Block-clause-adds c = rw c.in-Block.is (then c.word-at-in-Block.ensures c.zeros-in-Block.ensures)
+
+pub returns-in-Pause-clause-adds : goal.returns-in-Pause-clause-adds
+unfolding words_error
+returns-in-Pause-clause-adds c = rw c.in-Pause.is (then c.word-at-in-Pause.ensures c.zeros-in-Pause.ensures)

@@ -1,6 +1,6 @@
 use Rattle.std.proofs.Common.{arith, get_or, ◌∙◌}
-use Rattle.profile_table.proofs.DecimalLaws.{value_next, one_more, digit_small}
-use Rattle.profile_table.proofs.decimal.value.Goals as goal
+use Rattle.text.proofs.DecimalLaws.{value_next, one_more, digit_small}
+use Rattle.text.proofs.decimal.value.Goals as goal
 
 pub loop-b-preserved : goal.loop-b-preserved
 loop-b-preserved c =

@@ -1,6 +1,6 @@
-// Numbers in decimal digits: ten at most, or a profile's, one to three and at most 255.
+// Numbers in one to ten decimal digits.
 ghost use Rattle.std.specs.Prelude.{◌≡◌, ◌≤◌, length};
-ghost use Rattle.profile_table.specs.Decimal.{digit as Decimal·digit, value as Decimal·value, decimal_number, decimal_word};
+ghost use Rattle.text.specs.Decimal.{digit as Decimal·digit, value as Decimal·value, decimal_number, decimal_u32};
 
 fn digit(b: u8) -> Option<u64>
     ensures { Decimal·digit b ≡ result }
@@ -24,7 +24,6 @@ fn value(word: &[u8]) -> Option<u64>
     Some(v)
 }
 
-// One to ten digits.
 #[tactic(auto, unfolding(crate::specs::Decimal::decimal_number))]
 pub fn number(word: &[u8]) -> Option<u64>
     ensures { decimal_number word.now ≡ result }
@@ -35,15 +34,12 @@ pub fn number(word: &[u8]) -> Option<u64>
     value(word)
 }
 
-#[tactic(auto, unfolding(crate::specs::Decimal::decimal_word))]
-pub fn decimal(word: &[u8]) -> Option<u32>
-    ensures { decimal_word word.now ≡ result }
+// One that fits 32 bits.
+pub fn number_u32(word: &[u8]) -> Option<u32>
+    ensures { decimal_u32 word.now ≡ result }
 {
-    if word.is_empty() || word.len() > 3 {
-        return None;
-    }
-    let v = value(word)?;
-    if v > 255 {
+    let v = number(word)?;
+    if v > 0xffff_ffff {
         return None;
     }
     Some(v as u32)

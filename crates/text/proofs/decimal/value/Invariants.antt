@@ -1,6 +1,6 @@
 use Rattle.std.proofs.Common.{◌<◌, ◌≡◌, ◌^◌, drop}
-use Rattle.profile_table.specs.Decimal.{value}
-use Rattle.profile_table.proofs.decimal.value.Given as goal
+use Rattle.text.specs.Decimal.{value}
+use Rattle.text.proofs.decimal.value.Given as goal
 
 -- the digits so far are worth v
 abbrev pub invariant-loop-b : goal.invariant-loop-b

@@ -20,6 +20,6 @@ at_most n (Some v) = cond (leb v n) (Some v) None
 unfoldable pub decimal_number : List ℕ → Option ℕ
 decimal_number word = cond (between 1 10 (length word)) (value 0 word) None
 
--- one to three digits, at most 255
-unfoldable pub decimal_word : List ℕ → Option ℕ
-decimal_word word = cond (between 1 3 (length word)) (at_most 255 (value 0 word)) None
+-- that fit 32 bits
+abbrev pub decimal_u32 : List ℕ → Option ℕ
+decimal_u32 word = at_most 4294967295 (decimal_number word)

@@ -1,11 +1,10 @@
 -- A turn of reading decimal digits
 use borrow.Author.Tests.{leb-true}
-use Rattle.std.proofs.Common.{ℕ, ◌+◌, ◌-◌, ◌*◌, ◌^◌, ◌≡◌, ◌<◌, ◌≤◌, Bool, true, false, cond, List, leb, length, get_or, drop, drop_of_length-le, drop-cons, Some, None, refl, arith, add-one, pow-suc, zero-lt-suc}
+use Rattle.std.proofs.Common.{ℕ, ◌+◌, ◌-◌, ◌*◌, ◌^◌, ◌≡◌, ◌<◌, ◌≤◌, Bool, true, false, ◌&&◌, cond, List, leb, length, get_or, drop, drop_of_length-le, drop-cons, Some, None, refl, arith, add-one, pow-suc, zero-lt-suc}
 use native.Mathlib.Nat.{pow-le-pow_right}
 use Rattle.std.proofs.lemmas.Option.{same_Some}
-use Rattle.profile_table.specs.Decimal.{digit, value}
+use Rattle.text.specs.Decimal.{digit, value}
 use Rattle.text.specs.Hex.{between}
-use Rattle.profile_table.proofs.Ends.{and_right}
 
 module _ (word : List ℕ) (i v : ℕ) where
   pub value_end : length word ≤ i → value v (drop i word) ≡ Some v
@@ -20,11 +19,15 @@ module _ (word : List ℕ) (i v : ℕ) where
   unfolding value
   value_next d h e = rw (drop-cons word i 0 h) (rw e (simp add-one))
 
+below : (p q : Bool) → (p && q) ≡ true → q ≡ true
+below true q h = h
+below false q h = cc
+
 pub digit_small : (b d : ℕ) → digit b ≡ Some d → d < 10
 digit_small b d h = go (between 48 57 b) refl h
   where
     go : (t : Bool) → between 48 57 b ≡ t → cond t (Some (b - 48)) None ≡ Some d → d < 10
-    go true e h = omega (arith, leb-true b 57 (and_right (leb 48 b) (leb b 57) e), same_Some _ _ h)
+    go true e h = omega (arith, leb-true b 57 (below (leb 48 b) (leb b 57) e), same_Some _ _ h)
     go false e h = cc
 
 pub one_more : (i v d : ℕ) → v < 10 ^ i → d < 10 → 10 * v + d < 10 ^ (i + 1)
