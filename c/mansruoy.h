@@ -10,9 +10,10 @@
  *     mansruoy_answered r = mansruoy_answer(s.to);
  *
  * Numbers of a call: 0 it went well; 20 lan above 1, 21 a fiber device, 22 a PHY or device address above 31, 35 a KR address
- * above 0xffff, 23 a host block above 16 words, 32 a pause of 0 or above 100; 24 the conversation has ended; 25 a reply's kind above
- * 1, or in a run an odd number of reply words; 26 no reply left, 27 no room for three words (both stop a run, which goes on from what
- * it gives back); 100 no such family, device or operation, or arguments that are not the operation's; 101 words that are no conversation; 102 it
+ * above 0xffff, 31 a list of more than 64 pairs, 23 a host block above 16 words, 32 a pause of 0 or above 100; 24 the conversation has
+ * ended; 25 a reply's kind above 1, or in a run an odd number of reply words; 26 no reply left, 27 no room for three words (both stop a
+ * run, which goes on from what it gives back); 100 no such family, device or operation, or arguments that are not the operation's; 101
+ * words that are no conversation; 102 it
  * has not ended. A call that is turned away changes nothing.
  *
  * No pointer may be null, also where its length is 0, and the two buffers of a run do not overlap.
@@ -25,8 +26,9 @@
 #include <stdint.h>
 
 typedef struct {
-    uint32_t words[66]; /* what they mean may change; words that are no conversation's are refused */
-    uint32_t block[16]; /* the host block of a `command`; at its end, with the words of its reply that were read */
+    uint32_t words[67]; /* what they mean may change; words that are no conversation's are refused */
+    uint32_t block[80]; /* a host block of 16 words, then a list's 64. At the end an answer's words are the first: a command's, with
+                           those of its reply that were read, or a list's values */
 } mansruoy_conversation;
 
 /* number 0: the conversation as it is now; else what was handed in, and from `begin` words that are no conversation's */
@@ -40,10 +42,11 @@ typedef struct {
     uint32_t number, kind, reg, value;
 } mansruoy_asked;
 
-/* number 0: it has ended, with an answer (error 0) or an error (1 to 9), count words that go with it, and what was done for it */
+/* number 0: it has ended, with an answer (error 0) or an error (1 to 9), count words that go with it, how many of the conversation's
+ * block belong to it (of a list that a read ended, the values before it), and what was done for it */
 typedef struct {
     uint32_t number, error;
-    size_t count;
+    size_t count, block;
     uint64_t actions, micros;
     uint32_t words[12];
 } mansruoy_answered;

@@ -8,8 +8,8 @@ const PAUSE: u32 = 10;
 #[repr(C)]
 #[derive(Clone, Copy)]
 struct Conversation {
-    words: [u32; 66],
-    block: [u32; 16],
+    words: [u32; 67],
+    block: [u32; 80],
 }
 
 #[repr(C)]
@@ -31,6 +31,7 @@ struct Answered {
     number: u32,
     error: u32,
     count: usize,
+    block: usize,
     actions: u64,
     micros: u64,
     words: [u32; 12],

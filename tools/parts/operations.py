@@ -10,6 +10,7 @@ OPERATIONS = {
     'token': 'truth',
     'phy_activity': 'half word word word word',
     'read_reg': 'phy device half',
+    'mdio_list': 'phy pairs',
     'write_reg': 'phy device half half',
     'modify': 'phy device half half half',
     'probe': 'phy',
@@ -38,3 +39,8 @@ FIBER = {('X552', '15ac'), ('X553', '15c4'), ('X553', '15ce')}
 def has_block(name):
     """Are the arguments a host block, of as many words as the caller likes?"""
     return OPERATIONS.get(name) == 'block'
+
+
+def has_pairs(name):
+    """Are they pairs of device and register, behind the others?"""
+    return OPERATIONS.get(name, '').endswith('pairs')

@@ -3,6 +3,8 @@ import re
 
 LONGEST = 4000  # characters in the longest line that is made
 MANY = 440      # words in it
+LISTS = (0, 1, 1, 2, 2, 3, 5, 9)  # pairs of most lists; some are long
+LONG_LISTS = (40, 63, 64)
 
 MASKS = (0, 1, 2, 4, 6, 8, 0xf, 0x10, 0x400, 0x401, 0x800, 0x1000, 0x1800, 0x1806, 0x1c0f, 0x80000000, 0x40000000,
          0x40000002, 0x40000004, 0x40000010, 0x40001806, 0xffffffff, 0xbfffffff)
@@ -21,6 +23,10 @@ KINDS = {
              ([0xffff], [0x10000], [0xffffffff])),
     'phy': (lambda r, phy: [phy], PHY_EDGES),
     'device': (lambda r, phy: [r.choice((0, 1, 4, 7, 0x1e, 0x1f, r.randrange(32)))], PHY_EDGES),
+    'pairs': (lambda r, phy: pairs(r, r.choice(LISTS if r.randrange(16) else LONG_LISTS)),
+              ([], [1], [7, 1, 1], [0x1f, 0xffff], [0x20, 0], [0, 0x10000], [0, 0xffffffff], [0x20, 0x10000],
+               [1, 2] * 40, [1, 2] * 63, [1, 2] * 64, [1, 2] * 65, [1, 2] * 64 + [0x20, 0], [0x20, 0] + [1, 2] * 64,
+               [1, 2] * 64 + [1, 0x10000], [1, 2] * 64 + [1], [1, 2] * 219 + [0x100, 0])),
     'truth': (lambda r, phy: [r.getrandbits(1)], TRUTH_EDGES),
     'place': (lambda r, phy: [r.getrandbits(1)], TRUTH_EDGES),
     'option_truth': (lambda r, phy: r.choice(([0], [1, 0], [1, 1])), ([0], [1, 0], [1, 1], [1, 2], [2], [2, 0], [0, 0], [1])),
@@ -29,6 +35,11 @@ KINDS = {
     'block': (lambda r, phy: [r.choice((0, 0xffffffff, *[r.getrandbits(32)] * 3)) for _ in range(r.choice((0, 1, 2, 2, 3, 6, 15, 16)))],
               ([], [0] * 15, [0] * 16, [0] * 17, [1] * 100, [0xffffffff] * MANY)),
 }
+
+
+def pairs(rng, count):
+    """As many pairs of device and register."""
+    return [word for _ in range(count) for word in (rng.choice((1, 3, 4, 7, 0x1e, rng.randrange(32))), rng.getrandbits(16))]
 
 
 def line(*words):

@@ -45,12 +45,22 @@ impl Begun {
 
     pub const NVM_LOCK: u32 = Bits::EEP | Bits::SW_MNG;
 
-    fn under(port: Port, mask: u32, held: Held, block: &mut [u32; 16]) -> Begun
+    fn under(port: Port, mask: u32, held: Held, block: &mut [u32; 80]) -> Begun
         ensures { under_talk port mask held ≡ ask result.action (λ x. resume_access result.access block.new x) }
     {
         let under = Under {
             frame: Frame::of(port, mask),
             hold: HoldFor::Acquiring(held),
+        };
+        under.acquire(block)
+    }
+
+    fn listing(port: Port, phy: u32, pairs: u8, block: &mut [u32; 80]) -> Begun
+        ensures { job_talk port (jobv.ReadList phy pairs) block.old ≡ ask result.action (λ x. resume_access result.access block.new x) }
+    {
+        let under = Under {
+            frame: Frame::of(port, mask(port)),
+            hold: HoldFor::Listing(phy, 0, pairs),
         };
         under.acquire(block)
     }
@@ -66,7 +76,7 @@ impl Begun {
     }
 
     // An access of the sideband, with the port's pause.
-    fn kr(port: Port, wanted: KrWanted, block: &mut [u32; 16]) -> Begun
+    fn kr(port: Port, wanted: KrWanted, block: &mut [u32; 80]) -> Begun
         ensures { under_talk port 6 (held.Kr (kr_call port wanted)) ≡ ask result.action (λ x. resume_access result.access block.new x) }
     {
         let call = KrCall {
@@ -92,7 +102,7 @@ impl Begun {
 
     // Every job begins with an action.
     #[tactic(auto, using(crate::proofs::Laws::kr_read_begun, crate::proofs::Laws::kr_write_begun, crate::proofs::Laws::nvm_begun))]
-    pub fn of(job: Job, port: Port, block: &mut [u32; 16]) -> Begun
+    pub fn of(job: Job, port: Port, block: &mut [u32; 80]) -> Begun
         ensures { job_talk port job block.old ≡ ask result.action (λ x. resume_access result.access block.new x) }
     {
         match job {
@@ -108,6 +118,7 @@ impl Begun {
                 let wanted = Wanted::Read(address(phy, device, reg));
                 Begun::under(port, mask(port), Held::Mdio(wanted), block)
             }
+            Job::ReadList(phy, pairs) => Begun::listing(port, phy, pairs, block),
             Job::WriteReg(phy, device, reg, value) => {
                 let wanted = Wanted::Write(address(phy, device, reg), value);
                 Begun::under(port, mask(port), Held::Mdio(wanted), block)
@@ -126,7 +137,7 @@ impl Begun {
 }
 
 impl Access {
-    pub fn acquire(port: Port, mask: u32, block: &mut [u32; 16]) -> Step<Action, Access, Ended<u32>>
+    pub fn acquire(port: Port, mask: u32, block: &mut [u32; 80]) -> Step<Action, Access, Ended<u32>>
         ensures { told_access block.new result ≡ no_word (acquire port mask) }
     {
         let under = Under {
@@ -137,7 +148,7 @@ impl Access {
     }
 
     // That of mask 0 is done at once.
-    pub fn release(port: Port, mask: u32, block: &mut [u32; 16]) -> Step<Action, Access, Ended<u32>>
+    pub fn release(port: Port, mask: u32, block: &mut [u32; 80]) -> Step<Action, Access, Ended<u32>>
         ensures { told_access block.new result ≡ no_word (release port mask) }
     {
         let under = Under {
@@ -147,7 +158,7 @@ impl Access {
         under.release(block)
     }
 
-    pub fn next(self, block: &mut [u32; 16], reply: Reply) -> Step<Action, Access, Ended<u32>>
+    pub fn next(self, block: &mut [u32; 80], reply: Reply) -> Step<Action, Access, Ended<u32>>
         ensures { told_access block.new result ≡ resume_access self block.old reply }
     {
         let under = self.under;

@@ -62,7 +62,7 @@ impl Body {
         }
     }
 
-    pub fn start(held: Held, block: &mut [u32; 16]) -> Step<Action, Body, Result<u32, Error>>
+    pub fn start(held: Held, block: &mut [u32; 80]) -> Step<Action, Body, Result<u32, Error>>
         ensures { told_body block.new result ≡ held_talk held }
     {
         match held {
@@ -75,7 +75,7 @@ impl Body {
         }
     }
 
-    pub fn next(self, block: &[u32; 16], reply: Reply) -> Step<Action, Body, Result<u32, Error>>
+    pub fn next(self, block: &[u32; 80], reply: Reply) -> Step<Action, Body, Result<u32, Error>>
         ensures { told_body block.now result ≡ resume_body self block.now reply }
     {
         match self {

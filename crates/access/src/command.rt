@@ -3,7 +3,7 @@ ghost use Rattle.std.specs.Prelude.{ℕ, List, ◌≡◌, take};
 ghost use Rattle.hardware.specs.Talk.{end};
 ghost use Rattle.sync.specs.Sync.{told_sync};
 ghost use Rattle.hostif.specs.Exchange.{resume_exchange, told_exchange};
-ghost use Rattle.access.specs.Access.{command_then, command_synced, exchange_then, sync_then, sync_call, words_of, told_access};
+ghost use Rattle.access.specs.Access.{beside, rest_of, command_then, command_synced, exchange_then, sync_then, sync_call, words_of, told_access};
 
 use crate::hold::both;
 use crate::place::{Access, AccessPlace, CommandFor, CommandPlace, SyncFor, TokenPlace, Under};
@@ -15,13 +15,15 @@ use sync::sync::Sync;
 
 impl CommandFor {
     // The exchange goes on in the command's words.
+    #[tactic(auto, using(crate::proofs::ListLaws::rest_kept, crate::proofs::ListLaws::rest_far))]
     pub fn next(
         self,
         s: Exchange,
-        block: &mut [u32],
+        block: &mut [u32; 80],
         reply: Reply,
     ) -> Step<Action, Exchange, Result<u32, Error>>
-        ensures { told_exchange (take (words_of self) block.new) result ≡ resume_exchange s (take (words_of self) block.old) reply }
+        ensures exchange { told_exchange (take (words_of self) block.new) result ≡ resume_exchange s (take (words_of self) block.old) reply }
+        ensures list { rest_of self block.new ≡ rest_of self block.old }
     {
         let words = self.words();
         if words <= block.len() {
@@ -39,7 +41,7 @@ impl Under {
         whose: CommandFor,
         step: Step<Action, Exchange, Result<u32, Error>>,
     ) -> Step<Action, Access, Ended<u32>>
-        ensures { (b : List ℕ) → told_access b result ≡ exchange_then self whose (told_exchange (take (words_of whose) b) step) }
+        ensures { (b : List ℕ) → told_access b result ≡ exchange_then self whose (beside (rest_of whose b) (told_exchange (take (words_of whose) b) step)) }
     {
         match step {
             Step::Ask(a, s) => Step::Ask(
@@ -66,11 +68,11 @@ impl Under {
     // The command has ended: its status is the word, or the token's answer is made of it.
     fn commanded(
         self,
-        block: &mut [u32; 16],
+        block: &mut [u32; 80],
         whose: CommandFor,
         status: Result<u32, Error>,
     ) -> Step<Action, Access, Ended<u32>>
-        ensures { told_access block.new result ≡ command_then self whose (end (status, take (words_of whose) block.old)) }
+        ensures { told_access block.new result ≡ command_then self (rest_of whose block.old) whose (end (status, take (words_of whose) block.old)) }
     {
         match whose {
             CommandFor::Job(words) => Step::Done(Ended {
@@ -84,8 +86,8 @@ impl Under {
             CommandFor::Token(TokenPlace::Giving) => {
                 let token = Token { take: false };
                 match token.answered(status) {
-                    Ok(_) => self.rest(Ok(())),
-                    Err(e) => self.rest(Err(e)),
+                    Ok(_) => self.rest(block, Ok(())),
+                    Err(e) => self.rest(block, Err(e)),
                 }
             }
         }
@@ -94,12 +96,12 @@ impl Under {
     // acquire_bits or release_bits of SW_MNG has ended.
     fn command_bits(
         self,
-        block: &mut [u32; 16],
+        block: &mut [u32; 80],
         whose: CommandFor,
         place: CommandPlace,
         r: Result<(), Error>,
     ) -> Step<Action, Access, Ended<u32>>
-        ensures { told_access block.new result ≡ command_then self whose (command_synced self.frame place (end r) (take (words_of whose) block.old)) }
+        ensures { told_access block.new result ≡ command_then self (rest_of whose block.old) whose (command_synced self.frame place (end r) (take (words_of whose) block.old)) }
     {
         match place {
             CommandPlace::Acquiring => match r {
@@ -114,7 +116,7 @@ impl Under {
     #[tactic(auto, using(crate::proofs::Asks::sync_ask))]
     pub fn synced(
         self,
-        block: &mut [u32; 16],
+        block: &mut [u32; 80],
         why: SyncFor,
         step: Step<Action, Sync, Result<(), Error>>,
     ) -> Step<Action, Access, Ended<u32>>

@@ -1,19 +1,26 @@
 // sync.rs's `acquire`, `release` and `locked`, with TOKEN.
-ghost use Rattle.std.specs.Prelude.{ℕ, List, ◌≡◌};
-ghost use Rattle.hardware.specs.Talk.{ask, end};
-ghost use Rattle.reference.specs.Sync.{both};
+ghost use Rattle.std.specs.Prelude.{ℕ, List, [], ◌≡◌, ◌<◌, ◌/◌, ◌%◌, set, take};
+ghost use Rattle.hardware.specs.Talk.{and_then, ask, end};
+ghost use Rattle.hardware.specs.Block.{keep};
+ghost use Rattle.words.specs.Mdio.{address};
+ghost use Rattle.reference.specs.Mdio.{read_body};
+ghost use Rattle.reference.specs.Sync.{both, held_done, listed_after, plain};
+ghost use Rattle.jobs.specs.List.{list_of};
 ghost use Rattle.reference.specs.Acquire.{acquire_lost};
 ghost use Rattle.access.specs.Frame.{acquire_by, acquire_times_by, acquire_ask_by, acquire_got_by, acquire_given_by, release_by, release_rest_by};
 ghost use Rattle.access.specs.declared.place.BitsPlace.TheVariants as bitsv;
-ghost use Rattle.access.specs.Body.{told_body};
-ghost use Rattle.access.specs.Access.{opening, closing, body_then, bits_then, told_access, resume_access};
+ghost use Rattle.access.specs.declared.place.HoldFor.TheVariants as holdv;
+ghost use Rattle.access.specs.Body.{held_talk, list_from, list_got, told_body};
+ghost use Rattle.access.specs.Access.{opening, closing, bodies_then, body_then, bits_then, told_access, resume_access};
 
-use crate::body::Body;
+use crate::body::{Body, Held};
 use crate::frame::Frame;
 use crate::place::{Access, AccessPlace, Begun, BitsPlace, HoldFor, TokenPlace, Under};
 use hardware::{Action, Error, Step};
 use jobs::job::Ended;
 use jobs::token::Token;
+use mdio::mdio::{Mdio, Wanted};
+use words::msca::address;
 
 // locked's end: the body's error, then the release's.
 pub fn both(res: Result<u32, Error>, released: Result<(), Error>) -> Result<u32, Error>
@@ -24,35 +31,94 @@ pub fn both(res: Result<u32, Error>, released: Result<(), Error>) -> Result<u32,
     Ok(value)
 }
 
+// The list's words to the front of the block.
+#[tactic(auto, unfolding(jobs::specs::List::list_of))]
+fn to_front(block: &mut [u32; 80])
+    ensures { take 64 block.new ≡ list_of block.old }
+{
+    let own = *block;
+    block[..64].copy_from_slice(&own[16..]);
+}
+
+// A value in the place of its pair; one beyond the list is not kept.
+#[tactic(auto, using(crate::proofs::ListLaws::list_set, crate::proofs::ListLaws::list_out))]
+fn put_value(block: &mut [u32; 80], i: u8, v: u32)
+    ensures { list_of block.new ≡ set (list_of block.old) i v }
+{
+    if i < 64 {
+        block[16 + i as usize] = v;
+    }
+}
+
 impl Under {
+    // An end with this many values: they come to the front of the block.
+    #[tactic(auto, using(crate::proofs::ListLaws::front))]
+    fn valued(
+        block: &mut [u32; 80],
+        answer: Result<u32, Error>,
+        values: u8,
+    ) -> Step<Action, Access, Ended<u32>>
+        ensures { told_access block.new result ≡ end (answer, take values (list_of block.old)) }
+    {
+        let words = usize::min(values as usize, 64);
+        if words > 0 {
+            to_front(block);
+        }
+        Step::Done(Ended { answer, words })
+    }
+
+    // The body's error comes with its values, the release's with none.
+    fn given_back(
+        block: &mut [u32; 80],
+        got: Result<u32, Error>,
+        values: u8,
+        released: Result<(), Error>,
+    ) -> Step<Action, Access, Ended<u32>>
+        ensures { told_access block.new result ≡ end (listed_after (got, take values (list_of block.old)) released) }
+    {
+        if let Ok(_) = got {
+            if let Err(e) = released {
+                return Access::gave(Err(e));
+            }
+        }
+        Under::valued(block, got, values)
+    }
+
     // release has ended.
     #[tactic(auto, unfolding(crate::specs::Access::closing))]
-    pub fn closed(self, r: Result<(), Error>) -> Step<Action, Access, Ended<u32>>
-        ensures { (b : List ℕ) → told_access b result ≡ closing self (end r) }
+    pub fn closed(
+        self,
+        block: &mut [u32; 80],
+        r: Result<(), Error>,
+    ) -> Step<Action, Access, Ended<u32>>
+        ensures { told_access block.new result ≡ closing self (list_of block.old) (end r) }
     {
         match self.hold {
-            HoldFor::Alone => Access::gave(r.map(|()| 0)),
-            HoldFor::Acquiring(_) => Access::gave(r.map(|()| 0)),
-            HoldFor::Releasing(res) => Access::gave(both(res, r)),
+            HoldFor::Releasing(got, values) => Under::given_back(block, got, values, r),
+            _ => Access::gave(r.map(|()| 0)),
         }
     }
 
     // release's bits, also where the token could not be given back
-    pub fn rest(self, token: Result<(), Error>) -> Step<Action, Access, Ended<u32>>
-        ensures { (b : List ℕ) → told_access b result ≡ closing self (release_rest_by self.frame token) }
+    pub fn rest(
+        self,
+        block: &mut [u32; 80],
+        token: Result<(), Error>,
+    ) -> Step<Action, Access, Ended<u32>>
+        ensures { told_access block.new result ≡ closing self (list_of block.old) (release_rest_by self.frame token) }
     {
         if self.frame.hw() == 0 {
-            self.closed(token)
+            self.closed(block, token)
         } else {
             self.give(BitsPlace::Giving(token)).asked()
         }
     }
 
-    pub fn release(self, block: &mut [u32; 16]) -> Step<Action, Access, Ended<u32>>
-        ensures { told_access block.new result ≡ closing self (release_by self.frame) }
+    pub fn release(self, block: &mut [u32; 80]) -> Step<Action, Access, Ended<u32>>
+        ensures { told_access block.new result ≡ closing self (list_of block.old) (release_by self.frame) }
     {
         if self.frame.mask & Frame::TOKEN == 0 {
-            self.rest(Ok(()))
+            self.rest(block, Ok(()))
         } else {
             self.token(TokenPlace::Giving, block).asked()
         }
@@ -60,12 +126,95 @@ impl Under {
 
     // Whatever the body gave, the mask is given back.
     #[tactic(auto, unfolding(crate::specs::Access::closing))]
+    fn releasing(
+        self,
+        block: &mut [u32; 80],
+        got: Result<u32, Error>,
+        values: u8,
+    ) -> Step<Action, Access, Ended<u32>>
+        ensures { told_access block.new result ≡ bodies_then self.frame (end (got, take values (list_of block.old))) }
+    {
+        let hold = HoldFor::Releasing(got, values);
+        let frame = self.frame;
+        Under { frame, hold }.release(block)
+    }
+
+    // A list goes on with pair `i`, or has read its last.
+    fn pair(
+        self,
+        block: &mut [u32; 80],
+        phy: u32,
+        i: usize,
+        n: u8,
+    ) -> Step<Action, Access, Ended<u32>>
+        ensures { told_access block.new result ≡ bodies_then self.frame (list_from phy i n (list_of block.old)) }
+    {
+        if i < n as usize && i < 64 {
+            self.read_pair(phy, i, n, block[16 + i])
+        } else {
+            self.releasing(block, Ok(0), usize::min(i, 64) as u8)
+        }
+    }
+
+    // The read of a pair begins.
+    fn read_pair(self, phy: u32, i: usize, n: u8, pair: u32) -> Step<Action, Access, Ended<u32>>
+        requires { i < 64 }
+        ensures { (b : List ℕ) → told_access b result ≡ bodies_then self.frame (and_then (read_body (address phy (pair / 0x10000) (pair % 0x10000))) (list_got phy i n (list_of b))) }
+    {
+        let address = address(phy, pair >> 16, (pair % 0x1_0000) as u16);
+        let hold = HoldFor::Listing(phy, i as u8, n);
+        let begun = Mdio::read(address);
+        let frame = self.frame;
+        Step::Ask(
+            begun.action,
+            Access {
+                under: Under { frame, hold },
+                place: AccessPlace::Body(Body::Mdio(Wanted::Read(address), begun.state)),
+            },
+        )
+    }
+
+    // Pair `i` has been read.
+    fn listed(
+        self,
+        block: &mut [u32; 80],
+        phy: u32,
+        i: u8,
+        n: u8,
+        got: Result<u32, Error>,
+    ) -> Step<Action, Access, Ended<u32>>
+        ensures { told_access block.new result ≡ bodies_then self.frame (list_got phy i n (list_of block.old) got) }
+    {
+        match got {
+            Err(e) => self.releasing(block, Err(e), i),
+            Ok(v) => {
+                put_value(block, i, v);
+                self.pair(block, phy, i as usize + 1, n)
+            }
+        }
+    }
+
+    // The body has ended: a list goes on with its next pair.
+    fn got_body(
+        self,
+        block: &mut [u32; 80],
+        got: Result<u32, Error>,
+    ) -> Step<Action, Access, Ended<u32>>
+        ensures { told_access block.new result ≡ body_then self (list_of block.old) (end got) }
+    {
+        match self.hold {
+            HoldFor::Listing(phy, i, n) => self.listed(block, phy, i, n, got),
+            _ => self.releasing(block, got, 0),
+        }
+    }
+
+    // The body has gone on.
     pub fn bodied(
         self,
-        block: &mut [u32; 16],
+        block: &mut [u32; 80],
         step: Step<Action, Body, Result<u32, Error>>,
     ) -> Step<Action, Access, Ended<u32>>
-        ensures { told_access block.new result ≡ body_then self.frame (told_body block.old step) }
+        ensures { told_access block.new result ≡ body_then self (list_of block.old) (told_body block.old step) }
     {
         match step {
             Step::Ask(a, s) => Step::Ask(
@@ -75,45 +224,47 @@ impl Under {
                     place: AccessPlace::Body(s),
                 },
             ),
-            Step::Done(result) => {
-                let hold = HoldFor::Releasing(result);
-                let frame = self.frame;
-                Under { frame, hold }.release(block)
-            }
+            Step::Done(got) => self.got_body(block, got),
         }
+    }
+
+    // The body begins.
+    fn begin_body(self, block: &mut [u32; 80], held: Held) -> Step<Action, Access, Ended<u32>>
+        requires { self.hold ≡ holdv.Acquiring held }
+        ensures { told_access block.new result ≡ keep (and_then (held_talk held) (held_done plain (release_by self.frame))) [] }
+    {
+        let step = Body::start(held, block);
+        self.bodied(block, step)
     }
 
     // acquire has ended.
     #[tactic(auto, unfolding(crate::specs::Access::opening))]
     pub fn opened(
         self,
-        block: &mut [u32; 16],
+        block: &mut [u32; 80],
         r: Result<(), Error>,
     ) -> Step<Action, Access, Ended<u32>>
-        ensures { told_access block.new result ≡ opening self (end r) }
+        ensures { told_access block.new result ≡ opening self (list_of block.old) (end r) }
     {
+        let Ok(()) = r else {
+            return Access::gave(r.map(|()| 0));
+        };
         match self.hold {
-            HoldFor::Alone => Access::gave(r.map(|()| 0)),
-            HoldFor::Releasing(_) => Access::gave(r.map(|()| 0)),
-            HoldFor::Acquiring(held) => match r {
-                Err(e) => Access::gave(Err(e)),
-                Ok(()) => {
-                    let step = Body::start(held, block);
-                    self.bodied(block, step)
-                }
-            },
+            HoldFor::Acquiring(held) => self.begin_body(block, held),
+            HoldFor::Listing(phy, i, n) => self.pair(block, phy, i as usize, n),
+            _ => Access::gave(Ok(0)),
         }
     }
 
-    fn ask(self, block: &mut [u32; 16], left: u32) -> Step<Action, Access, Ended<u32>>
-        ensures { told_access block.new result ≡ opening self (acquire_ask_by self.frame (acquire_times_by self.frame left)) }
+    fn ask(self, block: &mut [u32; 80], left: u32) -> Step<Action, Access, Ended<u32>>
+        ensures { told_access block.new result ≡ opening self (list_of block.old) (acquire_ask_by self.frame (acquire_times_by self.frame left)) }
     {
         self.token(TokenPlace::Taking(left), block).asked()
     }
 
     #[tactic(auto, using(hardware::proofs::Laws::times_more, hardware::proofs::Laws::times_none))]
-    pub fn again(self, block: &mut [u32; 16], left: u32) -> Step<Action, Access, Ended<u32>>
-        ensures { told_access block.new result ≡ opening self (acquire_times_by self.frame left) }
+    pub fn again(self, block: &mut [u32; 80], left: u32) -> Step<Action, Access, Ended<u32>>
+        ensures { told_access block.new result ≡ opening self (list_of block.old) (acquire_times_by self.frame left) }
     {
         if left == 0 {
             let busy = Error::Firmware {
@@ -131,11 +282,11 @@ impl Under {
     #[tactic(auto, using(crate::proofs::Asks::opening_ask), unfolding(reference::specs::Acquire::acquire_lost))]
     fn lost(
         self,
-        block: &mut [u32; 16],
+        block: &mut [u32; 80],
         left: u32,
         granted: Result<bool, Error>,
     ) -> Step<Action, Access, Ended<u32>>
-        ensures { told_access block.new result ≡ opening self (acquire_lost granted (acquire_times_by self.frame left)) }
+        ensures { told_access block.new result ≡ opening self (list_of block.old) (acquire_lost granted (acquire_times_by self.frame left)) }
     {
         match granted {
             Err(e) => self.opened(block, Err(e)),
@@ -152,11 +303,11 @@ impl Under {
     // The bits are given back before the token is asked for again.
     fn given(
         self,
-        block: &mut [u32; 16],
+        block: &mut [u32; 80],
         left: u32,
         granted: Result<bool, Error>,
     ) -> Step<Action, Access, Ended<u32>>
-        ensures { told_access block.new result ≡ opening self (acquire_given_by self.frame (acquire_times_by self.frame left) granted) }
+        ensures { told_access block.new result ≡ opening self (list_of block.old) (acquire_given_by self.frame (acquire_times_by self.frame left) granted) }
     {
         if self.frame.hw() == 0 {
             self.lost(block, left, granted)
@@ -167,11 +318,11 @@ impl Under {
 
     pub fn got(
         self,
-        block: &mut [u32; 16],
+        block: &mut [u32; 80],
         left: u32,
         granted: Result<bool, Error>,
     ) -> Step<Action, Access, Ended<u32>>
-        ensures { told_access block.new result ≡ opening self (acquire_got_by self.frame (acquire_times_by self.frame left) granted) }
+        ensures { told_access block.new result ≡ opening self (list_of block.old) (acquire_got_by self.frame (acquire_times_by self.frame left) granted) }
     {
         match granted {
             Ok(true) => self.opened(block, Ok(())),
@@ -181,11 +332,11 @@ impl Under {
 
     fn taken(
         self,
-        block: &mut [u32; 16],
+        block: &mut [u32; 80],
         left: u32,
         r: Result<(), Error>,
     ) -> Step<Action, Access, Ended<u32>>
-        ensures { told_access block.new result ≡ bits_then self (bitsv.Taking left) (end r) }
+        ensures { told_access block.new result ≡ bits_then self (list_of block.old) (bitsv.Taking left) (end r) }
     {
         match r {
             Ok(()) => self.ask(block, left),
@@ -195,12 +346,12 @@ impl Under {
 
     fn freed(
         self,
-        block: &mut [u32; 16],
+        block: &mut [u32; 80],
         left: u32,
         granted: Result<bool, Error>,
         r: Result<(), Error>,
     ) -> Step<Action, Access, Ended<u32>>
-        ensures { told_access block.new result ≡ bits_then self (bitsv.Freeing left granted) (end r) }
+        ensures { told_access block.new result ≡ bits_then self (list_of block.old) (bitsv.Freeing left granted) (end r) }
     {
         match r {
             Ok(()) => self.lost(block, left, granted),
@@ -211,23 +362,23 @@ impl Under {
     // acquire_bits or release_bits of the mask has ended.
     pub fn bits(
         self,
-        block: &mut [u32; 16],
+        block: &mut [u32; 80],
         place: BitsPlace,
         r: Result<(), Error>,
     ) -> Step<Action, Access, Ended<u32>>
-        ensures { told_access block.new result ≡ bits_then self place (end r) }
+        ensures { told_access block.new result ≡ bits_then self (list_of block.old) place (end r) }
     {
         match place {
             BitsPlace::Plain => self.opened(block, r),
             BitsPlace::Taking(left) => self.taken(block, left, r),
             BitsPlace::Freeing(left, granted) => self.freed(block, left, granted, r),
-            BitsPlace::Giving(token) => self.closed(r.and(token)),
+            BitsPlace::Giving(token) => self.closed(block, r.and(token)),
         }
     }
 
     // acquire at its first action, which is always a read of SWSM
-    pub fn acquire(self, block: &mut [u32; 16]) -> Begun
-        ensures { opening self (acquire_by self.frame) ≡ ask result.action (λ x. resume_access result.access block.new x) }
+    pub fn acquire(self, block: &mut [u32; 80]) -> Begun
+        ensures { opening self (list_of block.old) (acquire_by self.frame) ≡ ask result.action (λ x. resume_access result.access block.new x) }
     {
         if self.frame.mask & Frame::TOKEN == 0 {
             self.take(BitsPlace::Plain)

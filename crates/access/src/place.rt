@@ -3,7 +3,8 @@ ghost use Rattle.std.specs.Prelude.{ℕ, List, [], ◌≡◌, take};
 ghost use Rattle.hardware.specs.Talk.{ask, end};
 ghost use Rattle.jobs.specs.Token.{token_words};
 ghost use Rattle.access.specs.Frame.{bits_of, command_bits, command_by};
-ghost use Rattle.access.specs.Access.{bits_then, command_then, takes, told_access, sync_call, words_of, resume_access};
+ghost use Rattle.jobs.specs.List.{list_of};
+ghost use Rattle.access.specs.Access.{bits_then, command_then, takes, told_access, sync_call, rest_of, words_of, resume_access};
 ghost use Rattle.access.specs.declared.place.CommandFor.TheVariants as whose;
 ghost use Rattle.sync.specs.Sync.{take_bits, give_bits};
 
@@ -22,8 +23,10 @@ pub enum HoldFor {
     Alone,
     // for this body
     Acquiring(Held),
-    // with what the body gave
-    Releasing(Result<u32, Error>),
+    // for a list, from this pair on: PHY, which pair, how many there are
+    Listing(u32, u8, u8),
+    // with what the body gave, and how many values belong to it
+    Releasing(Result<u32, Error>, u8),
 }
 
 // Where acquire_bits or release_bits of the mask runs.
@@ -157,7 +160,7 @@ impl Under {
 
     // acquire_bits of the mask begins.
     pub fn take(self, place: BitsPlace) -> Begun
-        ensures { (b : List ℕ) → bits_then self place (take_bits (bits_of self.frame)) ≡ ask result.action (λ x. resume_access result.access b x) }
+        ensures { (b : List ℕ) → bits_then self (list_of b) place (take_bits (bits_of self.frame)) ≡ ask result.action (λ x. resume_access result.access b x) }
     {
         let begun = self.frame.bits().take();
         Begun {
@@ -171,7 +174,7 @@ impl Under {
 
     // release_bits of the mask begins.
     pub fn give(self, place: BitsPlace) -> Begun
-        ensures { (b : List ℕ) → bits_then self place (give_bits (bits_of self.frame)) ≡ ask result.action (λ x. resume_access result.access b x) }
+        ensures { (b : List ℕ) → bits_then self (list_of b) place (give_bits (bits_of self.frame)) ≡ ask result.action (λ x. resume_access result.access b x) }
     {
         let begun = self.frame.bits().give();
         Begun {
@@ -184,8 +187,8 @@ impl Under {
     }
 
     // The token's command begins.
-    pub fn token(self, place: TokenPlace, block: &mut [u32; 16]) -> Begun
-        ensures { command_then self (whose.Token place) (command_by self.frame (token_words self.frame.lan (takes place))) ≡ ask result.action (λ x. resume_access result.access block.new x) }
+    pub fn token(self, place: TokenPlace, block: &mut [u32; 80]) -> Begun
+        ensures { command_then self (list_of block.old) (whose.Token place) (command_by self.frame (token_words self.frame.lan (takes place))) ≡ ask result.action (λ x. resume_access result.access block.new x) }
     {
         let token = Token {
             take: place.takes(),
@@ -196,7 +199,7 @@ impl Under {
 
     // A command begins, by the block's first words.
     pub fn command(self, whose: CommandFor) -> Begun
-        ensures { (b : List ℕ) → command_then self whose (command_by self.frame (take (words_of whose) b)) ≡ ask result.action (λ x. resume_access result.access b x) }
+        ensures { (b : List ℕ) → command_then self (rest_of whose b) whose (command_by self.frame (take (words_of whose) b)) ≡ ask result.action (λ x. resume_access result.access b x) }
     {
         let begun = self.frame.command().take();
         let why = SyncFor::Command(whose, CommandPlace::Acquiring);

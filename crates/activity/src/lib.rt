@@ -46,7 +46,7 @@ impl Activity {
     fn again(
         asked: Asked,
         port: Port,
-        block: &mut [u32; 16],
+        block: &mut [u32; 80],
         left: u32,
         status: u8,
     ) -> Step<Job, Activity, Result<Words, Error>>
@@ -89,7 +89,7 @@ impl Activity {
     fn answered(
         asked: Asked,
         port: Port,
-        block: &[u32; 16],
+        block: &[u32; 80],
         left: u32,
         given: Ended<u32>,
     ) -> Step<Job, Activity, Result<Words, Error>>
@@ -110,7 +110,7 @@ impl Activity {
 
     // Its six words are put, and it stands at its first job, the command of six words.
     #[tactic(auto, using(crate::proofs::Laws::activity_cut, crate::proofs::Laws::fifty), unfolding(reference::specs::Hostif::phy_activity))]
-    pub fn first(asked: Asked, port: Port, block: &mut [u32; 16]) -> Activity
+    pub fn first(asked: Asked, port: Port, block: &mut [u32; 80]) -> Activity
         ensures { begun_activity port asked block.new result ≡ activity_of port asked }
     {
         Activity::put(asked, port, block);
@@ -121,7 +121,7 @@ impl Activity {
     pub fn start(
         asked: Asked,
         port: Port,
-        block: &mut [u32; 16],
+        block: &mut [u32; 80],
     ) -> Step<Job, Activity, Result<Words, Error>>
         ensures { told_activity port asked block.new result ≡ activity_of port asked }
     {
@@ -132,7 +132,7 @@ impl Activity {
         self,
         asked: Asked,
         port: Port,
-        block: &mut [u32; 16],
+        block: &mut [u32; 80],
         given: Ended<u32>,
     ) -> Step<Job, Activity, Result<Words, Error>>
         ensures { told_activity port asked block.new result ≡ resume_activity port asked self given.answer (take given.words block.old) }

@@ -41,6 +41,9 @@ after_abilities got = answer value.Abilities (or_stop (λ v. return (speeds_of v
 abbrev pub after_command : ℕ → Res ℕ → List ℕ → Talk Out
 after_command n got ws = blk.or_stop (λ status. blk.return (value.Command status n)) (status_of got) ws
 
+abbrev pub after_list : ℕ → Res ℕ → List ℕ → Talk Out
+after_list n got ws = blk.or_stop (λ _. blk.return (value.List n)) got ws
+
 abbrev pub resume_after : Port → After → Res ℕ → List ℕ → Talk Out
 resume_after port after.Nothing got ws = after_nothing got
 resume_after port after.Word got ws = after_word got
@@ -48,6 +51,7 @@ resume_after port after.Veto got ws = after_veto got
 resume_after port after.Link got ws = after_link port got
 resume_after port after.Abilities got ws = after_abilities got
 resume_after port (after.Command n) got ws = after_command n got ws
+resume_after port (after.List n) got ws = after_list n got ws
 resume_after port (after.Token take) got ws = answer value.Flag (token_got take got)
 resume_after port (after.Activity asked s) got ws = answer value.Activity (resume_activity port asked s got ws)
 resume_after port (after.Mdio s) got ws = resume_mdio port s got

@@ -14,7 +14,7 @@ ghost use Rattle.jobs.specs.Token.{token_got};
 ghost use Rattle.activity.specs.Activity.{told_activity};
 ghost use Rattle.bringup.specs.Bringup.{told_bringup};
 ghost use Rattle.watch.specs.Poll.{told_poll};
-ghost use Rattle.after.specs.After.{after_abilities, after_command, after_link, after_nothing, after_veto, after_word, resume_after, told_after};
+ghost use Rattle.after.specs.After.{after_abilities, after_command, after_list, after_link, after_nothing, after_veto, after_word, resume_after, told_after};
 
 use crate::kr_registers::Kr;
 use crate::registers::Mdio;
@@ -41,6 +41,8 @@ pub enum After {
     Abilities,
     // how many words
     Command(u32),
+    // how many pairs
+    List(u32),
     // take
     Token(bool),
     Activity(Asked, Activity),
@@ -104,6 +106,17 @@ impl After {
         })
     }
 
+    // The words are the values, after an error too.
+    fn list(port: Port, n: u32, given: Ended<u32>) -> Step<Job, After, Ended<Value>>
+        ensures { (b : List ℕ) → told_after port b result ≡ after_list n given.answer (take given.words b) }
+    {
+        let Ended { answer, words } = given;
+        Step::Done(Ended {
+            answer: answer.map(|_| Value::List(n)),
+            words,
+        })
+    }
+
     fn token(port: Port, take: bool, got: Result<u32, Error>) -> Step<Job, After, Ended<Value>>
         ensures { (b : List ℕ) → told_after port b result ≡ answer value.Flag (token_got take got) }
     {
@@ -163,7 +176,7 @@ impl After {
     pub fn next(
         self,
         port: Port,
-        block: &mut [u32; 16],
+        block: &mut [u32; 80],
         given: Ended<u32>,
     ) -> Step<Job, After, Ended<Value>>
         ensures { told_after port block.new result ≡ resume_after port self given.answer (take given.words block.old) }
@@ -175,6 +188,7 @@ impl After {
             After::Link => After::link(port, given.answer),
             After::Abilities => After::abilities(port, given.answer),
             After::Command(n) => After::command(port, n, given),
+            After::List(n) => After::list(port, n, given),
             After::Token(take) => After::token(port, take, given.answer),
             After::Activity(asked, s) => {
                 let step = s.next(asked, port, block, given);

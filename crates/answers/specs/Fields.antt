@@ -79,13 +79,14 @@ setup553 setup553v.ManageabilityVeto = 3 ∷ []
 setup553 (setup553v.X557 s) = 5 ∷ setup552 s
 setup553 (setup553v.Firmware s) = 6 ∷ firmware s
 
--- the answer's own words; `command` has the host block's words behind them
+-- the answer's own words; `command` has the host block's words behind them, and of `mdio_list` its values are all
 abbrev pub value : Value → List ℕ
 value valuev.Nothing = []
 value (valuev.Flag b) = flag b ∷ []
 value (valuev.Word w) = w ∷ []
 value (valuev.Link l) = link l
 value (valuev.Command status n) = status ∷ []
+value (valuev.List n) = []
 value (valuev.Activity w) = activity w
 value (valuev.Probe id) = maybe id
 value (valuev.Scan s) = scanned s
@@ -94,13 +95,14 @@ value (valuev.X552 s) = setup552 s
 value (valuev.X553 s) = setup553 s
 value (valuev.Poll c forced reforced) = copper c ++ maybe forced ++ reforced ∷ []
 
--- how many words of the host block belong to it
+-- how many words of the block belong to it
 abbrev pub block_words : Value → ℕ
 block_words valuev.Nothing = 0
 block_words (valuev.Flag b) = 0
 block_words (valuev.Word w) = 0
 block_words (valuev.Link l) = 0
 block_words (valuev.Command status n) = n
+block_words (valuev.List n) = n
 block_words (valuev.Activity w) = 0
 block_words (valuev.Probe id) = 0
 block_words (valuev.Scan s) = 0
@@ -109,6 +111,6 @@ block_words (valuev.X552 s) = 0
 block_words (valuev.X553 s) = 0
 block_words (valuev.Poll c forced reforced) = 0
 
--- what a listing shows after `end ok`, with the host block as it is then
+-- what a listing shows after `end ok`, with the block as it is then
 abbrev pub fields : Value → List ℕ → List ℕ
 fields v block = value v ++ take (block_words v) block

@@ -191,6 +191,7 @@ impl Fields {
             Value::Word(w) => self.word(w),
             Value::Link(l) => self.link(l),
             Value::Command { status, .. } => self.word(status as u32),
+            Value::List(_) => self,
             Value::Activity(w) => self.activity(w),
             Value::Probe(id) => self.maybe(id),
             Value::Scan(s) => self.scanned(s),
@@ -231,6 +232,7 @@ impl Fields {
             | Error::Fiber
             | Error::Address
             | Error::KrAddress
+            | Error::Pairs
             | Error::Block
             | Error::Pause => self,
         }
@@ -266,7 +268,7 @@ impl Fields {
     }
 }
 
-// A command's words of the host block come behind these.
+// A command's words of the host block come behind these, as do a list's values.
 #[tactic(auto, using(crate::proofs::Fits::value_fits))]
 pub fn fields_of(v: Value) -> Fields
     ensures { result ≡ value v }
@@ -274,12 +276,13 @@ pub fn fields_of(v: Value) -> Fields
     Fields::none().value(v)
 }
 
-// How many words of the host block belong to the answer.
+// How many words of the block belong to the answer.
 pub fn block_words(v: Value) -> u32
     ensures { block_words v ≡ result }
 {
     match v {
         Value::Command { words, .. } => words,
+        Value::List(values) => values,
         _ => 0,
     }
 }
@@ -309,6 +312,7 @@ pub fn error_number(e: Error) -> u32
         Error::Fiber => 21,
         Error::Address => 22,
         Error::KrAddress => 35,
+        Error::Pairs => 31,
         Error::Block => 23,
         Error::Pause => 32,
     }

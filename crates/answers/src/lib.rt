@@ -116,6 +116,8 @@ pub enum Value {
         status: u8,
         words: u32,
     },
+    // mdio_list: how many values; they stand in the block
+    List(u32),
     Activity(Words),
     // the PHY's identifier
     Probe(Option<u32>),

@@ -1,4 +1,4 @@
--- A conversation's words are 66, and what no number is
+-- A conversation's words are 67, and what no number is
 use Prim.Native.Nat.{ℕ}
 use mathlib.Core.Path.{◌≡◌, refl, ap, sym, ◌∙◌}
 use mathlib.Core.Bool.{false}
@@ -7,7 +7,7 @@ use lib.Dec.{eqb}
 use lib.ListN.{length, length-append}
 use Rattle.hardware.specs.Numbers as error
 use Rattle.hardware.specs.declared.Error.{Error}
-use Rattle.hardware.specs.declared.Error.TheVariants.{Io, Removed, Timeout, Sideband, Semaphore, HostInterface, Firmware, NoPhy, PhyReset, Lan, Fiber, Address, KrAddress, Block, Pause}
+use Rattle.hardware.specs.declared.Error.TheVariants.{Io, Removed, Timeout, Sideband, Semaphore, HostInterface, Firmware, NoPhy, PhyReset, Lan, Fiber, Address, KrAddress, Pairs, Block, Pause}
 use Rattle.hardware.specs.declared.Action.{Action}
 use Rattle.hardware.specs.declared.Step.{Step}
 use Rattle.jobs.specs.declared.job.Ended.{Ended}
@@ -19,7 +19,7 @@ use Rattle.packed.specs.Started.{words_place, get_place}
 use Rattle.border.specs.Held.{words_of}
 use Rattle.packed.proofs.Width.Started.{place_length}
 
-pub words_of-length : (c : Conversation) → length (words_of c) ≡ 66
+pub words_of-length : (c : Conversation) → length (words_of c) ≡ 67
 unfolding words_of
 words_of-length c = simp (length-append, family_length, place_length)
 
@@ -42,5 +42,6 @@ error_number_lem Lan = refl
 error_number_lem Fiber = refl
 error_number_lem Address = refl
 error_number_lem KrAddress = refl
+error_number_lem Pairs = refl
 error_number_lem Block = refl
 error_number_lem Pause = refl

@@ -18,6 +18,7 @@ use Rattle.drive.specs.Moves.{Tape}
 use Rattle.calls.specs.Run.{Shown, tape_of, left, run_all}
 use Rattle.operations.specs.declared.Operation.{Operation}
 use Rattle.trace.specs.Kinds.{Line}
+use Rattle.trace.specs.Operation.{lent_words}
 use Rattle.border.specs.Held.{held_by, is_held}
 use Rattle.border.specs.declared.held.Held.{Held}
 use Rattle.border.specs.declared.Asked.{Asked}
@@ -35,7 +36,7 @@ outcome_of n h = pick (eqb n 0) (pick (is_held h) (went (conv_of (held_by h))) (
 
 -- words that are no conversation
 abbrev pub nothing : Held
-nothing = record { words = replicate 66 0; block = replicate 16 0 }
+nothing = record { words = replicate 67 0; block = replicate 80 0 }
 
 -- the number of a call that is turned away, or the conversation begun
 abbrev pub opened : Res (Unit {0}) → Conv → Outcome
@@ -48,7 +49,7 @@ opens p what ws = opened (refused p what ws) (begun p what ws)
 -- 100 for a port or an operation that is none, or arguments that are not the operation's
 abbrev pub begins_line : Port → Line → List ℕ → Outcome
 begins_line p None args = stayed (misuse_number Unknown) nothing
-begins_line p (Some (what, n)) args = opens p what (take n args)
+begins_line p (Some (what, n)) args = opens p what (lent_words what n args)
 
 abbrev pub begins : Option Port → Line → List ℕ → Outcome
 begins None l args = stayed (misuse_number Unknown) nothing
@@ -73,12 +74,14 @@ asking (ask a k) = record { number = 0; kind = act.kind a; register = act.regist
 unfoldable pub asks : Held → Asked
 asks c = pick (is_held c) (asking (conv_of (held_by c)).talk) (none (misuse_number NotHeld))
 
--- a call's number, the error's number or 0, how many words the answer has and those words, and the conversation's counts
+-- a call's number, the error's number or 0, how many words the answer has and those words, how many of the block belong to it, and
+-- the conversation's counts
 pub record Told : Type 0 where
   pub number : ℕ
   pub error : ℕ
   pub count : ℕ
   pub words : List ℕ
+  pub block : ℕ
   pub actions : ℕ
   pub micros : ℕ
 
@@ -89,23 +92,24 @@ answered_of r =
       error = r.error;
       count = r.count;
       words = take r.count r.words;
+      block = r.block;
       actions = r.actions;
       micros = r.micros;
     }
 
 abbrev pub no_answer : ℕ → ℕ → ℕ → Told
-no_answer n actions micros = record { number = n; error = 0; count = 0; words = []; actions = actions; micros = micros }
+no_answer n actions micros = record { number = n; error = 0; count = 0; words = []; block = 0; actions = actions; micros = micros }
 
-abbrev pub saying : ℕ → List ℕ → ℕ → ℕ → Told
-saying e ws actions micros = record { number = 0; error = e; count = length ws; words = ws; actions = actions; micros = micros }
+abbrev pub saying : ℕ → List ℕ → ℕ → ℕ → ℕ → Told
+saying e ws block actions micros = record { number = 0; error = e; count = length ws; words = ws; block = block; actions = actions; micros = micros }
 
-abbrev pub answer : Res Value → ℕ → ℕ → Told
-answer (Ok v) actions micros = saying 0 (value v) actions micros
-answer (Err e) actions micros = saying (error.number e) (error.values e) actions micros
+abbrev pub answer : Res Value → ℕ → ℕ → ℕ → Told
+answer (Ok v) block actions micros = saying 0 (value v) block actions micros
+answer (Err e) block actions micros = saying (error.number e) (error.values e) block actions micros
 
 -- 102 before the end
 abbrev pub answering : Talk Out → ℕ → ℕ → Told
-answering (end r) actions micros = answer r.0 actions micros
+answering (end r) actions micros = answer r.0 (length r.1) actions micros
 answering (ask a k) actions micros = no_answer (misuse_number NotEnded) actions micros
 
 abbrev pub answers_of : Conv → Told

@@ -7,7 +7,7 @@ use Rattle.conversation.specs.declared.conversation.Conversation.{Conversation}
 use Rattle.packed.specs.Started.{words_place, get_place}
 use Rattle.border.specs.declared.held.Held.{Held}
 
--- 66 words: the port's device, lan and pause, the two counts, its family, and where it stands
+-- 67 words: the port's device, lan and pause, the two counts, its family, and where it stands
 unfoldable pub words_of : Conversation → List ℕ
 words_of c =
     c.port.device ∷ c.port.lan ∷ c.port.pause

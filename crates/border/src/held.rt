@@ -1,4 +1,4 @@
-// A conversation as the caller holds it: plain words, and its host block.
+// A conversation as the caller holds it: plain words, and its host block and list.
 ghost use Rattle.std.specs.Prelude.{true, Some, None, ◌≡◌};
 ghost use Rattle.hardware.specs.Talk.{pick};
 ghost use Rattle.border.specs.Held.{words_of, conversation_of, held_by, is_held};
@@ -13,13 +13,13 @@ use packed::tape::{long, wide, word};
 #[repr(C)]
 #[derive(Clone, Copy)]
 pub struct Held {
-    pub words: [u32; 66],
-    pub block: [u32; 16],
+    pub words: [u32; 67],
+    pub block: [u32; 80],
 }
 
 // All words of a conversation.
 #[tactic(auto, unfolding(crate::specs::Held::words_of, crate::specs::Held::conversation_of, packed::specs::Tape::word_at))]
-fn put_conversation(tape: &mut [u32; 66], c: Conversation)
+fn put_conversation(tape: &mut [u32; 67], c: Conversation)
     ensures written { tape.new ≡ words_of c }
     ensures back { conversation_of (words_of c) c.block ≡ c }
 {
@@ -33,7 +33,7 @@ fn put_conversation(tape: &mut [u32; 66], c: Conversation)
 }
 
 #[tactic(auto, unfolding(crate::specs::Held::conversation_of))]
-fn get_conversation(words: &[u32], block: [u32; 16]) -> Conversation
+fn get_conversation(words: &[u32], block: [u32; 80]) -> Conversation
     ensures { result ≡ conversation_of words.now block }
 {
     Conversation {
@@ -55,7 +55,7 @@ pub fn hold(c: Conversation) -> Held
     ensures read_back { held_by result ≡ c }
     ensures held { is_held result ≡ true }
 {
-    let mut words = [0u32; 66];
+    let mut words = [0u32; 67];
     put_conversation(&mut words, c);
     let block = c.block;
     Held { words, block }
@@ -74,7 +74,7 @@ pub fn taken(h: Held) -> Option<Conversation>
     ensures { pick (is_held h) (Some (held_by h)) None ≡ result }
 {
     let c = read_held(h);
-    let mut own = [0u32; 66];
+    let mut own = [0u32; 67];
     put_conversation(&mut own, c);
     if own == h.words { Some(c) } else { None }
 }

@@ -6,7 +6,7 @@ pub mod held;
 pub mod port;
 
 ghost use Rattle.std.specs.Prelude.{◌≡◌, take};
-ghost use Rattle.trace.specs.Operation.{by_name};
+ghost use Rattle.trace.specs.Operation.{by_name, lent_words};
 ghost use Rattle.hardware.specs.Numbers.{misuse_number};
 ghost use Rattle.hardware.specs.declared.Misuse.TheVariants.{Unknown};
 ghost use Rattle.border.specs.Border.{stayed, nothing, outcome_of, begins, opens, steps, asks, none, answer, saying, no_answer, answers, answered_of, not_run, runs, ran_of};
@@ -21,7 +21,7 @@ use conversation::run::run;
 use drive::{kind_of, register_of, value_of};
 use hardware::{Error, Misuse, Port, Step, Stop};
 use operations::Operation;
-use trace::operation::named;
+use trace::operation::{lent, named};
 
 // What `mansruoy_begin` and `mansruoy_step` answer: 0 and the conversation as it is now, or a number and what was handed in.
 #[repr(C)]
@@ -41,13 +41,15 @@ pub struct Asked {
     pub value: u32,
 }
 
-// The answer of an operation: 0 or its error's number, so many words, and what was done for it.
+// The answer of an operation: 0 or its error's number, so many words, so many of the block, and what was done for it.
 #[repr(C)]
 #[derive(Clone, Copy)]
 pub struct Answered {
     pub number: u32,
     pub error: u32,
     pub count: usize,
+    // how many words of the block belong to it
+    pub block: usize,
     pub actions: u64,
     pub micros: u64,
     pub words: [u32; 12],
@@ -65,11 +67,11 @@ pub struct Ran {
 
 // Words that are no conversation, for a call that begins none.
 const NOTHING: Held = Held {
-    words: [0; 66],
-    block: [0; 16],
+    words: [0; 67],
+    block: [0; 80],
 };
 
-// Begins an operation that is not turned away; its host block is lent.
+// Begins an operation that is not turned away; its host block or its pairs are lent.
 #[tactic(auto, using(crate::proofs::Laws::error_number_lem), unfolding(crate::specs::Border::opens, crate::specs::Border::outcome_of))]
 fn open(port: Port, what: Operation, block: &[u32]) -> Stepped
     ensures { outcome_of result.number result.to ≡ opens port what block.now }
@@ -86,11 +88,11 @@ fn open(port: Port, what: Operation, block: &[u32]) -> Stepped
     }
 }
 
-// The host block is the first n arguments, or all of them.
+// Some words of the arguments are lent.
 fn begin_at(port: Port, what: Operation, arguments: &[u32], n: usize) -> Stepped
-    ensures { outcome_of result.number result.to ≡ opens port what (take n arguments.now) }
+    ensures { outcome_of result.number result.to ≡ opens port what (lent_words what n arguments.now) }
 {
-    open(port, what, arguments.get(..n).unwrap_or(arguments))
+    open(port, what, lent(what, arguments, n))
 }
 
 // No such family, device or operation, or arguments that are not the operation's.
@@ -175,25 +177,26 @@ pub fn mansruoy_step(c: Held, kind: u32, value: u32) -> Stepped
     }
 }
 
-fn saying(error: u32, words: Fields, actions: u64, micros: u64) -> Answered
-    ensures { answered_of result ≡ saying error words actions micros }
+fn saying(error: u32, words: Fields, block: usize, actions: u64, micros: u64) -> Answered
+    ensures { answered_of result ≡ saying error words block actions micros }
 {
     Answered {
         number: 0,
         error,
         count: words.count(),
+        block,
         actions,
         micros,
         words: words.to_array(),
     }
 }
 
-fn answer_words(what: Result<Value, Error>, actions: u64, micros: u64) -> Answered
-    ensures { answered_of result ≡ answer what actions micros }
+fn answer_words(what: Result<Value, Error>, block: usize, actions: u64, micros: u64) -> Answered
+    ensures { answered_of result ≡ answer what block actions micros }
 {
     match what {
-        Ok(v) => saying(0, fields_of(v), actions, micros),
-        Err(e) => saying(error_number(e), error_fields(e), actions, micros),
+        Ok(v) => saying(0, fields_of(v), block, actions, micros),
+        Err(e) => saying(error_number(e), error_fields(e), block, actions, micros),
     }
 }
 
@@ -204,6 +207,7 @@ fn no_answer(number: u32, actions: u64, micros: u64) -> Answered
         number,
         error: 0,
         count: 0,
+        block: 0,
         actions,
         micros,
         words: [0; 12],
@@ -220,7 +224,10 @@ pub fn mansruoy_answer(c: Held) -> Answered
     };
     match of.place {
         Step::Ask(_, _) => no_answer(Misuse::NotEnded.number(), of.actions, of.micros),
-        Step::Done(ended) => answer_words(ended.answer, of.actions, of.micros),
+        Step::Done(ended) => {
+            let words = usize::min(ended.words, 80);
+            answer_words(ended.answer, words, of.actions, of.micros)
+        }
     }
 }
 

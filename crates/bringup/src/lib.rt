@@ -242,7 +242,7 @@ impl Bringup {
     }
 
     #[tactic(auto, using(hardware::proofs::Laws::then_assoc), unfolding(reference::specs::X553::prepare_firmware))]
-    fn firmware(managed: Managed, block: &mut [u32; 16]) -> Step<Job, Bringup, Result<Value, Error>>
+    fn firmware(managed: Managed, block: &mut [u32; 80]) -> Step<Job, Bringup, Result<Value, Error>>
         ensures { told_bringup managed block.new result ≡ firmware_then managed (prepare_firmware managed.port managed.veto) }
     {
         let step = PrepareFirmware::start(managed, block);
@@ -267,7 +267,7 @@ impl Bringup {
     #[tactic(auto, using(hardware::proofs::Laws::then_assoc))]
     fn devices553(
         managed: Managed,
-        block: &mut [u32; 16],
+        block: &mut [u32; 80],
     ) -> Step<Job, Bringup, Result<Value, Error>>
         requires { managed.port.family ≡ X553 }
         ensures { told_bringup managed block.new result ≡ devices_of managed X553 }
@@ -283,7 +283,7 @@ impl Bringup {
         }
     }
 
-    fn devices(managed: Managed, block: &mut [u32; 16]) -> Step<Job, Bringup, Result<Value, Error>>
+    fn devices(managed: Managed, block: &mut [u32; 80]) -> Step<Job, Bringup, Result<Value, Error>>
         ensures { told_bringup managed block.new result ≡ devices_of managed managed.port.family }
     {
         match managed.port.family {
@@ -295,7 +295,7 @@ impl Bringup {
     #[tactic(auto, using(hardware::proofs::Laws::then_assoc))]
     fn after_clock(
         managed: Managed,
-        block: &mut [u32; 16],
+        block: &mut [u32; 80],
         fast: bool,
         step: Step<Job, Clock, Result<(), Error>>,
     ) -> Step<Job, Bringup, Result<Value, Error>>
@@ -309,7 +309,7 @@ impl Bringup {
     }
 
     #[tactic(auto, using(crate::proofs::Laws::bringup_clocked))]
-    fn clocked(managed: Managed, block: &mut [u32; 16]) -> Step<Job, Bringup, Result<Value, Error>>
+    fn clocked(managed: Managed, block: &mut [u32; 80]) -> Step<Job, Bringup, Result<Value, Error>>
         requires { managed.port.family ≡ X553 }
         ensures { told_bringup managed block.new result ≡ bringup managed.port.pause managed.port managed.veto }
     {
@@ -325,7 +325,7 @@ impl Bringup {
     #[tactic(auto, unfolding(reference::specs::Bringup::bringup))]
     pub fn start(
         managed: Managed,
-        block: &mut [u32; 16],
+        block: &mut [u32; 80],
     ) -> Step<Job, Bringup, Result<Value, Error>>
         ensures { told_bringup managed block.new result ≡ bringup managed.port.pause managed.port managed.veto }
     {
@@ -339,7 +339,7 @@ impl Bringup {
     pub fn next(
         self,
         managed: Managed,
-        block: &mut [u32; 16],
+        block: &mut [u32; 80],
         given: Ended<u32>,
     ) -> Step<Job, Bringup, Result<Value, Error>>
         ensures { told_bringup managed block.new result ≡ resume_bringup managed self given.answer (take given.words block.old) }

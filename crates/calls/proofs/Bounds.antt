@@ -40,7 +40,7 @@ short_begun port what ws = go (refused port what ws) (taken (request port what w
           brief = omega arith;
         }
     go (Ok u) known =
-        let fits = operation_fits port what ws (known refl).words in
+        let fits = operation_fits port what ws (known refl).words (known refl).pairs in
         let short = subst (λ (p : Port). p.pause ≤ 100) (request_port port what ws) (known refl).pause in
         record {
           n = actions what ws;

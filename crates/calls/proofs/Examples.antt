@@ -1,11 +1,11 @@
 -- Worked examples of `begin`: what it turns away, and what not
 use Rattle.std.specs.Prelude.{ℕ, zero, suc, Err}
 use mathlib.Core.Path.{◌≡◌, refl}
-use mathlib.Core.List.{List, [], ◌∷◌}
+use mathlib.Core.List.{List, [], ◌∷◌, ◌++◌}
 use Rattle.hardware.specs.Refusal.{refusal}
 use Rattle.hardware.specs.Talk.{end}
 use Rattle.hardware.specs.declared.Error.{Error}
-use Rattle.hardware.specs.declared.Error.TheVariants.{Lan, Fiber, Address, KrAddress, Block, Pause}
+use Rattle.hardware.specs.declared.Error.TheVariants.{Lan, Fiber, Address, KrAddress, Pairs, Block, Pause}
 use Rattle.hardware.specs.declared.Family.{Family}
 use Rattle.hardware.specs.declared.Family.TheVariants.{X552, X553}
 use Rattle.hardware.specs.declared.Port.{Port}
@@ -14,7 +14,7 @@ use Rattle.arguments.specs.declared.Change.{Change}
 use Rattle.words.specs.Kr.{krm}
 use Rattle.operations.specs.Example.{at552, other552}
 use Rattle.operations.specs.Operations.{operation}
-use Rattle.operations.specs.declared.Operation.TheVariants.{Veto, Command, Probe, ReadReg, KrRead, KrWrite, KrModify}
+use Rattle.operations.specs.declared.Operation.TheVariants.{Veto, Command, Probe, ReadReg, MdioList, KrRead, KrWrite, KrModify}
 use Rattle.calls.specs.Conversation.{Conv, begun, opening}
 
 -- a port of lan 0
@@ -68,6 +68,32 @@ block_16 = refl
 block_17 : begun at552 Command (words 17) ≡ refused at552 Block
 unfolding refusal request
 block_17 = refl
+
+-- a list of 64 pairs of device 1 and register 2, and of 65
+abbrev pairs : ℕ → List ℕ
+pairs zero = []
+pairs (suc n) = 1 ∷ 2 ∷ pairs n
+
+list_64 : begun at552 (MdioList 3) (pairs 64) ≡ opening at552 (operation at552 (MdioList 3) (pairs 64))
+unfolding refusal request
+list_64 = refl
+
+list_65 : begun at552 (MdioList 3) (pairs 65) ≡ refused at552 Pairs
+unfolding refusal request
+list_65 = refl
+
+-- a device that there is none of, behind the 64th; a register, and one that is missing
+list_32 : begun at552 (MdioList 3) (pairs 65 ++ (32 ∷ 2 ∷ [])) ≡ refused at552 Address
+unfolding refusal request
+list_32 = refl
+
+list_10000 : begun at552 (MdioList 3) (1 ∷ 0x10000 ∷ []) ≡ refused at552 Address
+unfolding refusal request
+list_10000 = refl
+
+list_odd : begun at552 (MdioList 3) (1 ∷ 2 ∷ 1 ∷ []) ≡ refused at552 Address
+unfolding refusal request
+list_odd = refl
 
 -- no other operation has a use for lent words, however many
 veto_17 : begun at552 Veto (words 17) ≡ opening at552 (operation at552 Veto [])

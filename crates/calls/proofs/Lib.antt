@@ -4,5 +4,6 @@ pub mod Bounds
 pub mod Counts
 pub mod Theorems
 pub mod Cases
+pub mod Lists
 mod Examples
 pub mod Pauses

@@ -67,21 +67,22 @@ abbrev pub asked_of : Talk Out → Option Action
 asked_of (end r) = None
 asked_of (ask a k) = Some a
 
--- what it has ended with, and its counts
+-- what it has ended with, how many words come with it, and its counts
 pub record Answer : Type 0 where
   pub what : Res Value
+  pub words : ℕ
   pub actions : ℕ
   pub micros : ℕ
 
 abbrev pub answer_at : Talk Out → Conv → Option Answer
-answer_at (end r) c = Some (record { what = r.0; actions = c.actions; micros = c.micros })
+answer_at (end r) c = Some (record { what = r.0; words = length r.1; actions = c.actions; micros = c.micros })
 answer_at (ask a k) c = None
 
 -- none while it still runs
 abbrev pub answer_of : Conv → Option Answer
 answer_of c = answer_at c.talk c
 
--- a block's words go to a lent block of the same length; 23 for another, which is left as it was
+-- a command's words or a list's values go to a lent block of the same length; 23 for another, which is left as it was
 abbrev pub given : List ℕ → List ℕ → Res (Unit {0}) × List ℕ
 given ws block = pick (length block == length ws) (Ok tt, ws) (Err Block, block)
 
@@ -97,6 +98,7 @@ left_by (valuev.Flag f) own = own
 left_by (valuev.Word v) own = own
 left_by (valuev.Link l) own = own
 left_by (valuev.Command status words) own = own
+left_by (valuev.List n) own = own
 left_by (valuev.Activity ws) own = own
 left_by (valuev.Probe id) own = own
 left_by (valuev.Scan s) own = own

@@ -3,3 +3,4 @@ pub mod Run
 pub mod Session
 pub mod Cases
 pub mod Pauses
+pub mod Lists

@@ -112,7 +112,7 @@ pub reads_lines : {E : Type 0} (r : Result Input E) (P : List ℕ → Type 0) (n
     {i : Input} {first second : Fetched} {port : Option Port} {what : Option (Operation × ℕ)}
     → Fetches old i mid first → line_of mid first.next ≡ line → port_of (words line) ≡ port
     → Fetches mid first.input last second → line_of last second.next ≡ line₂ → operation_of (words line₂) ≡ what
-    → args ≡ sets (replicate 17 0) 0 (numbers (drop 1 (words line₂)))
+    → args ≡ sets (replicate 7282 0) 0 (numbers (drop 1 (words line₂)))
     → IfOk r (λ rest. (text : List ℕ) × Opened port what args second.input asked last new text rest × P text)
     → IfOk r (λ rest. (text : List ℕ) × Listing old i asked new text rest × P text)
 reads_lines (Err e) P new asked f a b g c d h w = tt

@@ -18,9 +18,9 @@ abbrev pub block_line : Res (Unit {0}) × List ℕ → List ℕ
 block_line (Ok u, ws) = left_text ws
 block_line (Err e, ws) = []
 
--- a host block has 1 to 16 words
+-- a host block has 1 to 16 words, a list up to 64 values
 abbrev pub left_line : Conv → ℕ → List ℕ
-left_line c words = pick (words == 0 || nat_lt 16 words) [] (block_line (handed_back c.talk (take words (replicate 16 0))))
+left_line c words = pick (words == 0 || nat_lt 64 words) [] (block_line (handed_back c.talk (take words (replicate 80 0))))
 
 -- the last line, and where it is asked for the host block's behind it
 abbrev pub ended_text : Res Value → code.Conversation → ℕ → Bool → List ℕ

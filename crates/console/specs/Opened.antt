@@ -1,11 +1,11 @@
 -- A listing from the port's line on
-use Rattle.std.specs.Prelude.{ℕ, ◌≡◌, Bool, List, Option, Some, None, take, drop, replicate}
+use Rattle.std.specs.Prelude.{ℕ, ◌≡◌, Bool, List, Option, Some, None, drop, replicate}
 use Rattle.std.proofs.lemmas.List.Edits.{sets}
 use Rattle.hardware.specs.declared.Port.{Port}
 use Rattle.text.specs.Words.{words}
 use Rattle.operations.specs.declared.Operation.{Operation}
 use Rattle.trace.specs.Arguments.{numbers}
-use Rattle.trace.specs.Operation.{operation_of}
+use Rattle.trace.specs.Operation.{lent_words, operation_of}
 use Rattle.lines.specs.Port.{port_of}
 use Rattle.lines.specs.Listing.{stop_text}
 use Rattle.calls.specs.Conversation.{begun}
@@ -33,7 +33,7 @@ pub record Begins (port : Port) (what : Operation) (block : List ℕ) (i : Input
   pub listed : Listed from old new asked text rest
 
 abbrev pub Opened : Option Port → Option (Operation × ℕ) → List ℕ → Input → Bool → List ℕ → List ℕ → List ℕ → Input → Type 0
-Opened (Some port) (Some what) args i asked old new text rest = Begins port what.0 (take what.1 args) i asked old new text rest
+Opened (Some port) (Some what) args i asked old new text rest = Begins port what.0 (lent_words what.0 what.1 args) i asked old new text rest
 Opened (Some port) None args i asked old new text rest = Refused i old new text rest
 Opened None what args i asked old new text rest = Refused i old new text rest
 
@@ -45,7 +45,7 @@ abbrev pub what_in : List ℕ → Fetched → Option (Operation × ℕ)
 what_in buf f = operation_of (words (line_of buf f.next))
 
 abbrev pub args_in : List ℕ → Fetched → List ℕ
-args_in buf f = sets (replicate 17 0) 0 (numbers (drop 1 (words (line_of buf f.next))))
+args_in buf f = sets (replicate 7282 0) 0 (numbers (drop 1 (words (line_of buf f.next))))
 
 pub record Listing (old : List ℕ) (i : Input) (asked : Bool) (new text : List ℕ) (rest : Input) : Type 0 where
   pub first : Fetched

@@ -11,7 +11,8 @@ use std::io::Write;
 use streams::ending::{last, print_left};
 use streams::output::Waiting;
 
-// The host block as an ended `command` leaves it, after errors too. The listing has it after `end ok` alone.
+// The host block as an ended `command` leaves it, or the values of a list, after errors too. The listing has them after `end ok`
+// alone.
 fn left<W: Write>(
     c: Conversation,
     words: usize,
@@ -20,10 +21,10 @@ fn left<W: Write>(
 ) -> io::Result<()>
     ensures { PrintsAll result (W.contents sink.old) waiting.old (left_line (conv_of c) words) (W.contents sink.new) waiting.new }
 {
-    if words == 0 || words > 16 {
+    if words == 0 || words > 64 {
         return Ok(());
     }
-    let mut host = [0u32; 16];
+    let mut host = [0u32; 80];
     if c.hand_back(&mut host[..words]).is_err() {
         return Ok(());
     }

@@ -1,5 +1,6 @@
 // A listing, from the port's line on.
-ghost use Rattle.std.specs.Prelude.{◌≡◌, ℕ, List, take, IfOk};
+ghost use Rattle.std.specs.Prelude.{◌≡◌, ℕ, List, IfOk};
+ghost use Rattle.trace.specs.Operation.{lent_words};
 ghost use Rattle.calls.specs.Conversation.{begun};
 ghost use Rattle.conversation.specs.Conversation.{conv_of};
 ghost use Rattle.console.specs.Opened.{Opened, Listing};
@@ -18,20 +19,20 @@ use streams::ending::stop;
 use streams::input::{Fetched, Input, fetch};
 use streams::output::Waiting;
 use streams::part::line_of;
-use trace::operation::operation_line;
+use trace::operation::{lent, operation_line};
 
-// The first words of the arguments are the host block.
+// Some words of the arguments are lent.
 fn begin(port: Port, what: Operation, args: &[u32], words: usize) -> Conversation
-    ensures { conv_of result ≡ begun port what (take words args.now) }
+    ensures { conv_of result ≡ begun port what (lent_words what words args.now) }
 {
-    Conversation::begin(port, what, args.get(..words).unwrap_or(args))
+    Conversation::begin(port, what, lent(what, args, words))
 }
 
 // 25 where a line was missing or cannot be read.
 fn opened<R: Read, W: Write>(
     port: Option<Port>,
     what: Option<(Operation, usize)>,
-    args: &[u32; 17],
+    args: &[u32; 7282],
     source: &mut R,
     buf: &mut [u8],
     input: Input,
@@ -61,7 +62,7 @@ pub fn listing<R: Read, W: Write>(
 ) -> io::Result<Input>
     ensures { IfOk result (λ rest. (text : List ℕ) × (Listing buf.old input asked buf.new text rest) × (Prints (W.contents sink.old) waiting.old text (W.contents sink.new) waiting.new)) }
 {
-    let mut args = [0u32; 17];
+    let mut args = [0u32; 7282];
     let Fetched { next, input } = fetch(source, buf, input);
     let port = port_line(line_of(buf, next));
     let Fetched { next, input } = fetch(source, buf, input);

@@ -11,42 +11,81 @@ use Rattle.jobs.specs.declared.job.Ended.{Ended}
 use Rattle.answers.specs.declared.Value.{Value}
 use Rattle.reference.specs.Out.{Out}
 use Rattle.operations.specs.Request.{request, refused}
-use Rattle.operations.proofs.Words.{words_lent, only_words}
-use Rattle.operations.specs.Operations.{operation}
+use Rattle.operations.proofs.Words.{words_lent}
+use Rattle.operations.specs.Pairs.{pairs_of}
+use Rattle.operations.specs.declared.Operation.TheVariants as operationv
+use Rattle.start.specs.First.{begins}
+use Rattle.conversation.specs.Begun.{first_words, padded}
+use Rattle.conversation.proofs.PairLaws.{own_pairs}
+use Rattle.operations.specs.Operations.{list_operation, operation}
 use Rattle.operations.specs.declared.Operation.{Operation}
 use Rattle.started.specs.Operation.{told}
 use Rattle.started.specs.declared.operation.Op.{Op}
 use Rattle.calls.specs.Conversation.{Conv, opening, begun}
 use Rattle.calls.specs.Run.{run_into}
 use Rattle.calls.proofs.Laws.{run_part}
-use Rattle.conversation.specs.Conversation.{conv_of, padded}
+use Rattle.conversation.specs.Conversation.{conv_of}
 use Rattle.conversation.specs.Run.{shown_of}
 use Rattle.conversation.specs.declared.conversation.Conversation as code
 use Rattle.conversation.specs.declared.run.Ran.{Ran}
 
 -- the words under it are still in a block that was padded
-pub take_padded : (ws : List ℕ) → take (length ws) (padded ws) ≡ ws
-take_padded ws = take_at ws (drop (length ws) (replicate 16 0)) (length ws) refl
+take_padded : (ws : List ℕ) → take (length ws) (padded ws) ≡ ws
+take_padded ws = take_at ws (drop (length ws) (replicate 80 0)) (length ws) refl
+
+-- it begins with the operation, on the words that are lent
+begins_lem : (port : Port) (what : Operation) (ws : List ℕ) → refusal (request port what ws) ≡ Ok tt
+    → begins port what (request port what ws).words (request port what ws).pairs (first_words what (request port what ws).words ws) ≡ operation port what ws
+unfolding request begins first_words
+begins_lem port operationv.Veto ws t = refl
+begins_lem port operationv.Link ws t = refl
+begins_lem port (operationv.Acquire mask) ws t = refl
+begins_lem port (operationv.Release mask) ws t = refl
+begins_lem port operationv.Command ws t = ap (operation port operationv.Command) (ap (λ (block : List ℕ). take (length ws) (padded block)) (take_all (length ws) ws (omega arith)) ∙ take_padded ws)
+begins_lem port (operationv.Token take) ws t = refl
+begins_lem port (operationv.PhyActivity asked) ws t = refl
+begins_lem port (operationv.ReadReg phy device register) ws t = refl
+begins_lem port (operationv.MdioList phy) ws t = let a = taken (request port (operationv.MdioList phy) ws) t in ap (list_operation port phy) (own_pairs ws a.outside a.pairs)
+begins_lem port (operationv.WriteReg phy device register value) ws t = refl
+begins_lem port (operationv.Modify at) ws t = refl
+begins_lem port (operationv.Probe phy) ws t = refl
+begins_lem port operationv.Scan ws t = refl
+begins_lem port (operationv.Reset phy x557) ws t = refl
+begins_lem port (operationv.Abilities phy) ws t = refl
+begins_lem port (operationv.Advertise asked) ws t = refl
+begins_lem port (operationv.AnLink phy) ws t = refl
+begins_lem port (operationv.KrRead address) ws t = refl
+begins_lem port (operationv.KrWrite address value) ws t = refl
+begins_lem port (operationv.KrModify c) ws t = refl
+begins_lem port operationv.RestartAn ws t = refl
+begins_lem port (operationv.KrAutoneg kr kx) ws t = refl
+begins_lem port (operationv.NvmWord word) ws t = refl
+begins_lem port operationv.AfterReset ws t = refl
+begins_lem port (operationv.Bringup veto) ws t = refl
+begins_lem port (operationv.Poll w) ws t = refl
+
+list_few : (port : Port) (phy : ℕ) (ws : List ℕ) → refusal (request port (operationv.MdioList phy) ws) ≡ Ok tt → length (pairs_of ws) ≤ 64
+unfolding request
+list_few port phy ws t = (taken (request port (operationv.MdioList phy) ws) t).pairs
 
 -- the words that a request counts are lent, and in one that is not turned away they are few
-module _ (port : Port) (what : Operation) (ws : List ℕ) {r : Request} (asks : request port what ws ≡ r) where
-  pub counted : length (take r.words ws) ≡ r.words
-  counted = length-take-le r.words ws (subst (λ (x : Request). x.words ≤ length ws) asks (words_lent port what ws))
+module _ (port : Port) (what : Operation) (ws : List ℕ) {r : Request} (asks : request port what ws ≡ r) (t : refusal r ≡ Ok tt) where
+  pub few : r.words ≤ length ws × r.words ≤ 16
+  few = (subst (λ (x : Request). x.words ≤ length ws) asks (words_lent port what ws), (taken r t).words)
 
-  pub few : refusal r ≡ Ok tt → length (take r.words ws) ≤ 16
-  few t = subst (λ n. n ≤ 16) (sym counted) (taken r t).words
+  verdict : refusal (request port what ws) ≡ Ok tt
+  verdict = subst (λ x. refusal x ≡ Ok tt) (sym asks) t
 
-  -- it begins with the operation, on those words
-  pub not_refused : (block : List ℕ) {t : Talk Out} → refusal r ≡ Ok tt → block ≡ padded (take r.words ws)
-      → t ≡ operation port what (take r.words block)
-      → opening port t ≡ begun port what ws
-  not_refused block t b e =
-      let words : take r.words block ≡ take r.words ws =
-      ap (take r.words) b ∙ subst (λ n. take n (padded (take r.words ws)) ≡ take r.words ws) counted (take_padded (take r.words ws)) in
-      let used : operation port what (take r.words ws) ≡ operation port what ws =
-      subst (λ (x : Request). operation port what (take x.words ws) ≡ operation port what ws) asks (only_words port.pause port what ws) in
-      let verdict : refused port what ws ≡ Ok tt = subst (λ x. refusal x ≡ Ok tt) (sym asks) t in
-      ap (opening port) (e ∙ ap (operation port what) words ∙ used) ∙ rw verdict
+  pub few_pairs : (phy : ℕ) → what ≡ operationv.MdioList phy → length (pairs_of ws) ≤ 64
+  few_pairs phy is = list_few port phy ws (subst (λ (w : Operation). refusal (request port w ws) ≡ Ok tt) is verdict)
+
+  pub not_refused : (own : List ℕ) {o : Talk Out} → own ≡ first_words what r.words ws → o ≡ begins port what r.words r.pairs own
+      → opening port o ≡ begun port what ws
+  not_refused own {o = o} b e =
+      let begins_so : o ≡ operation port what ws =
+      e ∙ ap (begins port what r.words r.pairs) b
+      ∙ subst (λ (x : Request). begins port what x.words x.pairs (first_words what x.words ws) ≡ operation port what ws) asks (begins_lem port what ws verdict) in
+      ap (opening port) begins_so ∙ rw verdict
 
 -- what a conversation says where it stands at a place that is known
 pub at_place : (c : code.Conversation) {p : Step Action Op (Ended Value)} → c.place ≡ p → (conv_of c).talk ≡ told c.port p c.block

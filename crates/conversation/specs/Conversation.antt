@@ -1,5 +1,4 @@
 -- What the code's conversation means
-use Rattle.std.specs.Prelude.{ℕ, List, ◌++◌, length, drop, replicate}
 use Rattle.started.specs.Operation.{told}
 use Rattle.calls.specs.Conversation.{Answer, Conv, conv, Step}
 use Rattle.conversation.specs.declared.conversation.Answer as code_answer
@@ -13,8 +12,4 @@ abbrev pub stepped_of : Stepped → Step
 stepped_of s = record { stop = s.stop; to = conv_of s.to }
 
 abbrev pub answer_as : code_answer.Answer → Answer
-answer_as a = record { what = a.what; actions = a.actions; micros = a.micros }
-
--- the block's words, over 16 zeros
-abbrev pub padded : List ℕ → List ℕ
-padded ws = ws ++ drop (length ws) (replicate 16 0)
+answer_as a = record { what = a.what; words = a.words; actions = a.actions; micros = a.micros }

@@ -1,3 +1,4 @@
+pub mod Begun
 pub mod Conversation
 pub mod Hold
 pub mod Run

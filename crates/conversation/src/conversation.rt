@@ -1,10 +1,14 @@
 // A conversation by value: begin, and one step.
-ghost use Rattle.std.specs.Prelude.{◌≡◌, ◌≤◌, [], ◌∷◌, length, take, Err};
+ghost use Rattle.std.specs.Prelude.{ℕ, ◌≡◌, ◌≤◌, [], ◌∷◌, length, replicate, take, Err};
+ghost use Rattle.std.proofs.lemmas.List.Edits.{sets};
+ghost use Rattle.operations.specs.Pairs.{pairs_of};
+ghost use Rattle.operations.specs.declared.Operation.TheVariants as ops;
 ghost use Rattle.hardware.specs.Talk.{end};
 ghost use Rattle.drive.specs.Act.{reply_for};
 ghost use Rattle.std.specs.Option.{option_map};
 ghost use Rattle.calls.specs.Conversation.{answer_of, asked_of, gone, opening, begun, refuses, step_talk, given, handed_back, left_by, left_of, own_of};
-ghost use Rattle.conversation.specs.Conversation.{answer_as, conv_of, padded, stepped_of};
+ghost use Rattle.conversation.specs.Begun.{first_words, padded, pair_words};
+ghost use Rattle.conversation.specs.Conversation.{answer_as, conv_of, stepped_of};
 ghost use Rattle.start.specs.First.{told_first};
 ghost use Rattle.started.specs.Operation.{resume_op, told};
 
@@ -24,8 +28,9 @@ use started::operation::Op;
 pub struct Conversation {
     pub port: Port,
     pub place: Step<Action, Op, Ended<Value>>,
-    // in fixed memory; how many of its words are an answer's stands in `place`
-    pub block: [u32; 16],
+    // in fixed memory: the host block of 16 words, then a list's pairs and values. At the end an answer's words are the first; how
+    // many stands in `place`
+    pub block: [u32; 80],
     pub actions: u64,
     pub micros: u64,
 }
@@ -40,22 +45,54 @@ pub struct Stepped {
     pub micros: u64,
 }
 
-// What a conversation has ended with, and the number of actions done and the sum of their waits.
+// What a conversation has ended with, how many words `hand_back` has, also after an error, and the number of actions done and the
+// sum of their waits.
 #[derive(Clone, Copy)]
 pub struct Answer {
     pub what: Result<Value, Error>,
+    pub words: usize,
     pub actions: u64,
     pub micros: u64,
 }
 
 // The words of a block that is lent, then zeros.
-fn copied(block: &[u32]) -> [u32; 16]
+fn copied(block: &[u32]) -> [u32; 80]
     requires { length block.now ≤ 16 }
     ensures { result ≡ padded block.now }
 {
-    let mut b = [0u32; 16];
+    let mut b = [0u32; 80];
     b[..block.len()].copy_from_slice(block);
     b
+}
+
+// A list's pairs, one word each, behind a host block of zeros.
+#[tactic(auto, using(crate::proofs::PairLaws::pair_then, crate::proofs::PairLaws::pair_short, crate::proofs::PairLaws::pairs_more))]
+fn listed(words: &[u32]) -> [u32; 80]
+    requires { length (pair_words words.now) ≤ 64 }
+    ensures { result ≡ sets (replicate 80 0) 16 (pair_words words.now) }
+{
+    let mut own = [0u32; 80];
+    let mut at: usize = 16;
+    for pair in words.chunks(2) {
+        if pair.len() == 2 {
+            own[at] = pair[0] % 0x1_0000 * 0x1_0000 + pair[1] % 0x1_0000;
+            at += 1;
+        }
+    }
+    own
+}
+
+// What is lent, in the conversation's own words.
+#[tactic(auto, unfolding(crate::specs::Begun::first_words))]
+fn lent(what: Operation, block: &[u32], words: usize) -> [u32; 80]
+    requires block { words ≤ length block.now × words ≤ 16 }
+    requires list { (phy : ℕ) → what ≡ ops.MdioList phy → length (pairs_of block.now) ≤ 64 }
+    ensures { result ≡ first_words what words block.now }
+{
+    match what {
+        Operation::MdioList(_) => listed(block),
+        _ => copied(&block[..words]),
+    }
 }
 
 // A block's words into a lent one of the same length.
@@ -80,7 +117,7 @@ fn give_first(own: &[u32], words: usize, block: &mut [u32]) -> Result<(), Error>
 
 // The place of an operation's first step.
 #[tactic(auto, using(hardware::proofs::Laws::then_assoc))]
-fn placed(port: Port, block: &mut [u32; 16], first: First) -> Step<Action, Op, Ended<Value>>
+fn placed(port: Port, block: &mut [u32; 80], first: First) -> Step<Action, Op, Ended<Value>>
     ensures { told port result block.new ≡ told_first port block.old first }
 {
     match first {
@@ -128,7 +165,7 @@ impl Conversation {
     fn refused(port: Port, e: Error) -> Conversation
         ensures { conv_of result ≡ opening port (end (Err e, [])) }
     {
-        let block = [0u32; 16];
+        let block = [0u32; 80];
         Conversation {
             port,
             place: Step::Done(Ended {
@@ -141,7 +178,8 @@ impl Conversation {
         }
     }
 
-    // Begins an operation, with the words that are lent: a command's host block. No other operation has a use for any.
+    // Begins an operation, with the words that are lent: a command's host block, a list's pairs. No other operation has a use for
+    // any.
     #[tactic(auto, using(crate::proofs::Laws::not_refused))]
     pub fn begin(port: Port, what: Operation, block: &[u32]) -> Conversation
         ensures { conv_of result ≡ begun port what block.now }
@@ -150,8 +188,8 @@ impl Conversation {
         match request.refusal() {
             Err(e) => Conversation::refused(port, e),
             Ok(()) => {
-                let mut words = copied(&block[..request.words]);
-                let first = start(what, port, &mut words, request.words);
+                let mut words = lent(what, block, request.words);
+                let first = start(what, port, &mut words, request.words, request.pairs);
                 let place = placed(port, &mut words, first);
                 Conversation {
                     port,
@@ -229,14 +267,16 @@ impl Conversation {
             Step::Ask(_, _) => None,
             Step::Done(ended) => Some(Answer {
                 what: ended.answer,
+                words: usize::min(ended.words, 80),
                 actions: self.actions,
                 micros: self.micros,
             }),
         }
     }
 
-    // Hands the words of a `command` that has ended, well or not, back to the block that they came from. A block of another
-    // length is 23 and stays as it was, and so is any block before the end.
+    // Hands the words of a `command` that has ended, well or not, back to the block that they came from; and the values of an
+    // `mdio_list`, of one that a read ended those before it. A block of another length than the answer has words is 23 and stays
+    // as it was, and so is any block before the end.
     pub fn hand_back(self, block: &mut [u32]) -> Result<(), Error>
         ensures { (result, block.new) ≡ handed_back (conv_of self).talk block.old }
     {

@@ -39,7 +39,7 @@ struct Reached {
 fn ahead(
     place: Step<Action, Op, Ended<Value>>,
     port: Port,
-    block: &mut [u32; 16],
+    block: &mut [u32; 80],
     h: &mut Host,
     replies: &[u32],
     t: &mut [u32],
@@ -57,7 +57,7 @@ fn ahead(
 fn run_from(
     from: Step<Action, Op, Ended<Value>>,
     port: Port,
-    block: &mut [u32; 16],
+    block: &mut [u32; 80],
     h: &mut Host,
     replies: &[u32],
     t: &mut [u32],

@@ -10,15 +10,17 @@ use Rattle.hardware.specs.Talk.{Res, pick}
 use Rattle.hardware.specs.Refusal.{is_fiber, refusal}
 use Rattle.hardware.specs.declared.Request.{Request}
 use Rattle.hardware.specs.declared.Error.{Error}
-use Rattle.hardware.specs.declared.Error.TheVariants.{Lan, Fiber, Address, KrAddress, Block, Pause}
+use Rattle.hardware.specs.declared.Error.TheVariants.{Lan, Fiber, Address, KrAddress, Pairs, Block, Pause}
 
 pub record Taken (r : Request) : Type 0 where
   pub lan : r.port.lan ≤ 1
   pub fiber : is_fiber r.port ≡ false
   pub phy : r.phy ≤ 31
   pub device : r.device ≤ 31
+  pub outside : r.outside ≡ false
   pub kr : r.kr ≤ 0xffff
   pub selected : r.selected ≤ 0xffff
+  pub pairs : r.pairs ≤ 64
   pub words : r.words ≤ 16
   pub pause : r.port.pause ≤ 100
 
@@ -39,20 +41,24 @@ unfolding refusal
 taken r h =
     let lan = passed (ltb 1 r.port.lan) Lan h in
     let fiber = passed (is_fiber r.port) Fiber lan.1 in
-    let mdio = passed (ltb 31 r.phy || ltb 31 r.device) Address fiber.1 in
+    let mdio = passed (ltb 31 r.phy || ltb 31 r.device || r.outside) Address fiber.1 in
     let kr = passed (ltb 0xffff r.kr || ltb 0xffff r.selected) KrAddress mdio.1 in
-    let block = passed (ltb 16 r.words) Block kr.1 in
+    let list = passed (ltb 64 r.pairs) Pairs kr.1 in
+    let block = passed (ltb 16 r.words) Block list.1 in
     let paused = passed (eqb r.port.pause 0 || ltb 100 r.port.pause) Pause block.1 in
     let pause = neither (eqb r.port.pause 0) (ltb 100 r.port.pause) paused.0 in
-    let addresses = neither (ltb 31 r.phy) (ltb 31 r.device) mdio.0 in
+    let pairs = neither (ltb 31 r.phy || ltb 31 r.device) r.outside mdio.0 in
+    let addresses = neither (ltb 31 r.phy) (ltb 31 r.device) pairs.0 in
     let registers = neither (ltb 0xffff r.kr) (ltb 0xffff r.selected) kr.0 in
     record {
       lan = ltb-false _ _ lan.0;
       fiber = fiber.0;
       phy = ltb-false _ _ addresses.0;
       device = ltb-false _ _ addresses.1;
+      outside = pairs.1;
       kr = ltb-false _ _ registers.0;
       selected = ltb-false _ _ registers.1;
+      pairs = ltb-false _ _ list.0;
       words = ltb-false _ _ block.0;
       pause = ltb-false _ _ pause.1;
     }

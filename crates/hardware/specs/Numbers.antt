@@ -1,4 +1,4 @@
--- All numbers of the part, and the values that go with each: document 01's table in its order, 35 and 32 of document 02 where
+-- All numbers of the part, and the values that go with each: document 01's table in its order, 35, 31 and 32 of document 02 where
 -- they are tested, then the calls from C
 use Rattle.std.specs.Prelude.{ℕ, List, [], ◌∷◌}
 use Rattle.hardware.specs.declared.Error.{Error}
@@ -20,6 +20,7 @@ use Rattle.hardware.specs.declared.Error.TheVariants.{
   Fiber,
   Address,
   KrAddress,
+  Pairs,
   Block,
   Pause,
 }
@@ -38,6 +39,7 @@ number Lan = 20
 number Fiber = 21
 number Address = 22
 number KrAddress = 35
+number Pairs = 31
 number Block = 23
 number Pause = 32
 
@@ -55,6 +57,7 @@ values Lan = []
 values Fiber = []
 values Address = []
 values KrAddress = []
+values Pairs = []
 values Block = []
 values Pause = []
 

@@ -40,6 +40,9 @@ pub struct Request {
     // the addresses of a PHY and of an MDIO device
     pub phy: u32,
     pub device: u32,
+    // whether a pair of a list has a device or a register that MDIO has not, and the number of pairs
+    pub outside: bool,
+    pub pairs: usize,
     // a KR register's address as it is named, and as CTRL is to be given it
     pub kr: u32,
     pub selected: u32,
@@ -94,6 +97,7 @@ pub enum Error {
     Fiber,
     Address,
     KrAddress,
+    Pairs,
     Block,
     Pause,
 }
@@ -230,7 +234,7 @@ impl Request {
     // The largest address of a KR register.
     const KR_LAST: u32 = 0xffff;
 
-    // What `begin` turns away, looked at in this order: the port, the addresses, a command's words, the pause.
+    // What `begin` turns away, looked at in this order: the port, the addresses, a list's pairs, a command's words, the pause.
     #[tactic(auto, unfolding(crate::specs::Refusal::refusal))]
     pub fn refusal(self) -> Result<(), Error>
         ensures { refusal self ≡ result }
@@ -241,11 +245,14 @@ impl Request {
         if self.port.is_fiber() {
             return Err(Error::Fiber);
         }
-        if self.phy > 31 || self.device > 31 {
+        if self.phy > 31 || self.device > 31 || self.outside {
             return Err(Error::Address);
         }
         if self.kr > Request::KR_LAST || self.selected > Request::KR_LAST {
             return Err(Error::KrAddress);
+        }
+        if self.pairs > 64 {
+            return Err(Error::Pairs);
         }
         if self.words > 16 {
             return Err(Error::Block);

@@ -13,7 +13,9 @@ pub enum Job {
     Command(usize),
     // PHY, device, register
     ReadReg(u32, u32, u16),
-    // with the value
+    // a list under one hold: PHY, how many pairs; they are the first words behind the host block
+    ReadList(u32, u8),
+    // PHY, device, register, value
     WriteReg(u32, u32, u16, u16),
     // address
     KrRead(u32),

@@ -2,6 +2,7 @@
 ghost use Rattle.std.specs.Prelude.{◌≡◌, take};
 ghost use Rattle.hardware.specs.Talk.{end};
 ghost use Rattle.reference.specs.Hostif.{token_status};
+ghost use Rattle.jobs.specs.List.{list_of};
 ghost use Rattle.jobs.specs.Token.{token_words, token_got};
 
 use hardware::Error;
@@ -53,8 +54,10 @@ impl Token {
     }
 
     // The command's two words.
-    pub fn put(self, lan: u32, block: &mut [u32; 16])
-        ensures { take 2 block.new ≡ token_words lan self.take }
+    #[tactic(auto, using(crate::proofs::List::list_kept))]
+    pub fn put(self, lan: u32, block: &mut [u32; 80])
+        ensures words { take 2 block.new ≡ token_words lan self.take }
+        ensures list { list_of block.new ≡ list_of block.old }
     {
         let word = if self.take { lan } else { lan | Token::GIVE };
         block[..2].copy_from_slice(&[Token::HEADER, word]);

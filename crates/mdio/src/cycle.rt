@@ -1,5 +1,7 @@
 // mdio.rs's `cycle`: a command is written to MSCA, which is then polled until the command is done.
 ghost use Rattle.std.specs.Prelude.{◌≡◌};
+ghost use Rattle.hardware.specs.Talk.{ask};
+ghost use Rattle.mdio.specs.declared.cycle.Cycle.TheVariants as cyclev;
 ghost use Rattle.reference.specs.Mdio.{cycle, cycle_times};
 ghost use Rattle.mdio.specs.Cycle.{resume_cycle, told_cycle};
 
@@ -34,14 +36,18 @@ impl Cycle {
         }
     }
 
+    // Its first action, behind which it stands at `Starting`.
     #[tactic(auto, unfolding(reference::specs::Mdio::cycle))]
+    pub fn first(command: u32) -> Action
+        ensures { cycle command ≡ ask result (λ x. resume_cycle cyclev.Starting x) }
+    {
+        Action::Write(Cycle::MSCA, command | Command::GO)
+    }
+
     pub fn start(command: u32) -> Step<Action, Cycle, Result<(), Error>>
         ensures { told_cycle result ≡ cycle command }
     {
-        Step::Ask(
-            Action::Write(Cycle::MSCA, command | Command::GO),
-            Cycle::Starting,
-        )
+        Step::Ask(Cycle::first(command), Cycle::Starting)
     }
 }
 

@@ -1,6 +1,8 @@
 // The closures of mdio.rs's `read_reg` and `write_reg`: an address cycle, then the operation's.
 ghost use Rattle.std.specs.Prelude.{◌≡◌};
-ghost use Rattle.reference.specs.Mdio.{cycle};
+ghost use Rattle.hardware.specs.Talk.{ask};
+ghost use Rattle.reference.specs.Mdio.{cycle, read_body};
+ghost use Rattle.mdio.specs.declared.mdio.Wanted.TheVariants as wanted;
 ghost use Rattle.mdio.specs.Cycle.{told_cycle};
 ghost use Rattle.mdio.specs.Mdio.{body_of, address_of, command_of, mdio_addressed, mdio_operated, mdio_cycled, resume_mdio, told_mdio};
 
@@ -32,6 +34,13 @@ pub enum Mdio {
     Cycling(MdioPlace, Cycle),
     // read_reg's value is read from MSRWD.
     Data,
+}
+
+// Where a read begins: its first action, and where it stands then.
+#[derive(Clone, Copy)]
+pub struct MdioBegun {
+    pub action: Action,
+    pub state: Mdio,
 }
 
 impl Wanted {
@@ -106,6 +115,16 @@ impl Mdio {
         match place {
             MdioPlace::Address => Mdio::addressed(wanted, step),
             MdioPlace::Operation => Mdio::operated(wanted, step),
+        }
+    }
+
+    // A read begins with its address cycle.
+    pub fn read(address: u32) -> MdioBegun
+        ensures { read_body address ≡ ask result.action (λ x. resume_mdio (wanted.Read address) result.state x) }
+    {
+        MdioBegun {
+            action: Cycle::first(address),
+            state: Mdio::Cycling(MdioPlace::Address, Cycle::Starting),
         }
     }
 

@@ -1,6 +1,8 @@
 -- mdio.rs keeps the rules
-use Rattle.std.specs.Prelude.{None, Option, Some}
-use Rattle.hardware.specs.Talk.{Call, pick, is_clear, fail, return}
+use Rattle.std.specs.Prelude.{None, Option, Some, Ok, Err}
+use mathlib.Core.List.{List, [], ◌∷◌, ◌++◌}
+use Rattle.hardware.specs.Block as blk
+use Rattle.hardware.specs.Talk.{Call, Res, pick, is_clear, fail, return}
 use Prim.Native.Nat.{ℕ, ◌+◌}
 use mathlib.Core.Path.{◌≡◌, refl}
 use mathlib.Core.Bool.{Bool, true, false, ◌||◌}
@@ -17,7 +19,10 @@ use Rattle.reference.specs.Mdio.{
   cycle,
   token_of,
   mask,
+  read_body,
   read_reg,
+  list_body,
+  mdio_list,
   write_reg,
   modify,
   changed,
@@ -36,8 +41,8 @@ use Rattle.reference.specs.Mdio.{
 use Rattle.reference.specs.Sync.{plain}
 use Rattle.mixing.specs.Only.{only_end, only_ask}
 use Rattle.mixing.specs.Events.{is_ok}
-use Rattle.mixing.proofs.Only.{by_turns, far, Quiet, only_bind, only_pick, only_read, only_raw, only_write}
-use Rattle.mixing.proofs.Sound.{Sound, quietly, ends, picks, waits, bind, under, honest_plain}
+use Rattle.mixing.proofs.Only.{by_turns, far, Quiet, only_then, only_bind, only_pick, only_read, only_raw, only_write}
+use Rattle.mixing.proofs.Sound.{Sound, well_block, quietly, ends, picks, waits, bind, under, honest_plain, honest_values}
 use Rattle.mixing.proofs.Token.{token_bracket}
 
 -- the mask has a PHY bit
@@ -66,10 +71,26 @@ module _ (port : Port) where
   held : {A : Type 0} {body : Call A} → Quiet port.family body → Sound port.family is_ok (locked plain port (mask port) body)
   held q = under (token_bracket port (mask port) (has_bits port)) honest_plain (quietly q)
 
+  q_read : (a : ℕ) → Quiet f (read_body a)
+  q_read a = only_bind (q_cycle f _) (λ _. only_bind (q_cycle f _) (λ _. only_bind (only_raw (far 0x4260 tt tt f)) (λ v. only_end)))
+
   pub s_read_reg : (phy dev reg : ℕ) → Sound f is_ok (read_reg port phy dev reg)
   unfolding read_reg
-  s_read_reg phy dev reg =
-      held (only_bind (q_cycle f _) (λ _. only_bind (q_cycle f _) (λ _. only_bind (only_raw (far 0x4260 tt tt f)) (λ v. only_end))))
+  s_read_reg phy dev reg = held (q_read _)
+
+  -- pair by pair
+  q_list : (phy : ℕ) (pairs : List (ℕ × ℕ)) (values : List ℕ) → Quiet f (list_body phy pairs values)
+  q_list phy [] values = only_end
+  q_list phy ((dev, reg) ∷ rest) values = only_then (only_then (q_read _) (λ r. only_end)) (λ p. go (λ vs. q_list phy rest vs) p.0 p.1)
+    where
+      go : ((vs : List ℕ) → Quiet f (list_body phy rest vs)) → (r : Res ℕ) (vs : List ℕ) → Quiet f (blk.or_stop (λ v vs. list_body phy rest (vs ++ v ∷ [])) r vs)
+      go q (Ok v) vs = q (vs ++ v ∷ [])
+      go q (Err e) vs = only_end
+
+  pub s_list : (phy : ℕ) (pairs : List (ℕ × ℕ)) → Sound f well_block (mdio_list port phy pairs)
+  unfolding mdio_list
+  s_list phy [] = ends
+  s_list phy (pair ∷ rest) = under (token_bracket port (mask port) (has_bits port)) honest_values (quietly (q_list phy (pair ∷ rest) []))
 
   pub s_write_reg : (phy dev reg value : ℕ) → Sound f is_ok (write_reg port phy dev reg value)
   unfolding write_reg

@@ -13,6 +13,7 @@ use Rattle.answers.specs.declared.Value.{Value}
 use Rattle.reference.specs.Hardware as hardware
 use Rattle.reference.specs.Bringup.{after_reset, bringup552, bringup553, bringup_of, bringup}
 use Rattle.reference.specs.Out.{answer}
+use Rattle.operations.specs.Pairs.{pairs_of}
 use Rattle.operations.specs.Request.{request, refused}
 use Rattle.operations.specs.Operations.{operation}
 use Rattle.operations.specs.declared.Operation.{Operation}
@@ -24,7 +25,7 @@ use Rattle.mixing.specs.Events.{is_ok}
 use Rattle.mixing.proofs.Hostif.{s_command, s_token, s_activity}
 use Rattle.mixing.proofs.Kr.{reads_kr, writes_kr}
 use Rattle.mixing.proofs.Lock.{and_left}
-use Rattle.mixing.proofs.Mdio.{s_read_reg, s_write_reg, s_modify, s_probe, s_scan, s_reset, s_abilities, s_advertise, s_an_link}
+use Rattle.mixing.proofs.Mdio.{s_read_reg, s_list, s_write_reg, s_modify, s_probe, s_scan, s_reset, s_abilities, s_advertise, s_an_link}
 use Rattle.mixing.proofs.Only.{far}
 use Rattle.mixing.proofs.Sound.{Sound, ends, picks, bind, bind_block, keeps}
 use Rattle.mixing.proofs.X552.{s_read, s_nvm, s_kr_modify, s_restart, s_autoneg, s_poll}
@@ -62,6 +63,7 @@ module _ (port : Port) where
   sound_op (operationv.Token take) ws m h = answers _ (s_token port take)
   sound_op (operationv.PhyActivity asked) ws m h = answers _ (s_activity port asked.activity asked.data.w0 asked.data.w1 asked.data.w2 asked.data.w3)
   sound_op (operationv.ReadReg phy device register) ws m h = answers _ (s_read_reg port phy device register)
+  sound_op (operationv.MdioList phy) ws m h = bind_block (s_list port phy (pairs_of ws)) (λ _ values. ends)
   sound_op (operationv.WriteReg phy device register value) ws m h = answers _ (s_write_reg port phy device register value)
   sound_op (operationv.Modify at) ws m h = answers _ (s_modify port at.phy at.device at.register at.keep at.set)
   sound_op (operationv.Probe phy) ws m h = answers _ (s_probe port phy)

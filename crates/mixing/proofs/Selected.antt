@@ -47,6 +47,7 @@ module _ (port : Port) where
   bare_addressed (operationv.Token take) ws e = absurd (true≢false e)
   bare_addressed (operationv.PhyActivity asked) ws e = absurd (true≢false e)
   bare_addressed (operationv.ReadReg phy device register) ws e = absurd (true≢false e)
+  bare_addressed (operationv.MdioList phy) ws e = absurd (true≢false e)
   bare_addressed (operationv.WriteReg phy device register value) ws e = absurd (true≢false e)
   bare_addressed (operationv.Modify at) ws e = absurd (true≢false e)
   bare_addressed (operationv.Probe phy) ws e = absurd (true≢false e)

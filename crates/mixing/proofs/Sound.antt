@@ -13,7 +13,7 @@ use Rattle.hardware.specs.declared.Family.{Family}
 use Rattle.hardware.specs.declared.Port.{Port}
 use Rattle.hardware.proofs.Laws.{then_assoc}
 use Rattle.words.specs.Semaphore.{software, bits}
-use Rattle.reference.specs.Sync.{mux, acquire_bits, settle, release_bits, Ending, plain, with_block, held, held_done, held_taken}
+use Rattle.reference.specs.Sync.{mux, acquire_bits, settle, release_bits, Ending, plain, with_block, with_values, held, held_done, held_taken}
 use Rattle.mixing.specs.Addressed.{Addressed}
 use Rattle.mixing.specs.Only.{only_end, only_ask}
 use Rattle.mixing.specs.Heeded as heeded
@@ -207,6 +207,18 @@ honest_block b =
       after = λ p. honest_plain.after p.0;
       after_error = λ p e. honest_plain.after_error p.0 e;
     }
+
+-- of a list: the release's error drops the values, and is the answer
+pub honest_values : {A : Type 0} → Honest {X = Res A × List ℕ} well_block with_values
+honest_values {A} = record { before = λ e. refl; after = good; after_error = bad }
+  where
+    good : (x : Res A × List ℕ) → well_block (with_values.after x (Ok tt)) ≡ well_block x
+    good (Ok a, vs) = refl
+    good (Err e, vs) = refl
+
+    bad : (x : Res A × List ℕ) (d : Error) → well_block (with_values.after x (Err d)) ≡ false
+    bad (Ok a, vs) d = refl
+    bad (Err e, vs) d = refl
 
 pub or_right : (a b : Bool) → b ≡ true → (a || b) ≡ true
 or_right a b h = ap (λ t. a || t) h ∙ or-true a

@@ -16,6 +16,7 @@ use Rattle.reference.specs.X552 as x552
 use Rattle.reference.specs.Bringup.{after_reset, bringup553, bringup_of, bringup}
 use Rattle.reference.specs.Out.{answer}
 use Rattle.operations.specs.Operations.{operation_with, operation}
+use Rattle.operations.specs.Pairs.{pairs_of}
 use Rattle.operations.specs.Request.{request}
 use Rattle.operations.specs.declared.Operation.{Operation}
 use Rattle.operations.specs.declared.Operation.TheVariants as operationv
@@ -25,6 +26,7 @@ use Rattle.reference.proofs.Bounds.Hostif.{of_command, of_token, of_activity}
 use Rattle.reference.proofs.Bounds.Acquire.{of_acquire, of_release}
 use Rattle.reference.proofs.Bounds.Mdio.{
   of_read_reg,
+  of_list,
   of_write_reg,
   of_modify,
   of_probe,
@@ -79,6 +81,7 @@ module _ (pause : ℕ) (short : pause ≤ 100) (port : Port) where
   operation_with_lem (operationv.Token take) ws = of_answer _ (of_token port take)
   operation_with_lem (operationv.PhyActivity asked) ws = of_answer _ (of_activity port asked.activity asked.data.w0 asked.data.w1 asked.data.w2 asked.data.w3)
   operation_with_lem (operationv.ReadReg phy device register) ws = of_answer _ (of_read_reg port phy device register)
+  operation_with_lem (operationv.MdioList phy) ws = within_more (omega arith) (omega arith) (of_lent (of_list port phy (pairs_of ws)) (λ _ values. of_end))
   operation_with_lem (operationv.WriteReg phy device register value) ws = of_answer _ (of_write_reg port phy device register value)
   operation_with_lem (operationv.Modify at) ws = of_answer _ (of_modify port at.phy at.device at.register at.keep at.set)
   operation_with_lem (operationv.Probe phy) ws = of_answer _ (of_probe port phy)
@@ -105,30 +108,31 @@ pub record Fits (what : Operation) (ws : List ℕ) : Type 0 where
   pub of_actions : actions what ws < 2 ^ 63
   pub of_micros : micros what ws < 2 ^ 63
 
-pub operation_fits : (port : Port) (what : Operation) (ws : List ℕ) → (request port what ws).words ≤ 16 → Fits what ws
+pub operation_fits : (port : Port) (what : Operation) (ws : List ℕ) → (request port what ws).words ≤ 16 → (request port what ws).pairs ≤ 64 → Fits what ws
 unfolding request
-operation_fits port operationv.Veto ws h = record { of_actions = omega arith; of_micros = omega arith }
-operation_fits port operationv.Link ws h = record { of_actions = omega arith; of_micros = omega arith }
-operation_fits port (operationv.Acquire mask) ws h = record { of_actions = omega arith; of_micros = omega arith }
-operation_fits port (operationv.Release mask) ws h = record { of_actions = omega arith; of_micros = omega arith }
-operation_fits port operationv.Command ws h = record { of_actions = omega arith; of_micros = omega arith }
-operation_fits port (operationv.Token take) ws h = record { of_actions = omega arith; of_micros = omega arith }
-operation_fits port (operationv.PhyActivity asked) ws h = record { of_actions = omega arith; of_micros = omega arith }
-operation_fits port (operationv.ReadReg phy device register) ws h = record { of_actions = omega arith; of_micros = omega arith }
-operation_fits port (operationv.WriteReg phy device register value) ws h = record { of_actions = omega arith; of_micros = omega arith }
-operation_fits port (operationv.Modify at) ws h = record { of_actions = omega arith; of_micros = omega arith }
-operation_fits port (operationv.Probe phy) ws h = record { of_actions = omega arith; of_micros = omega arith }
-operation_fits port operationv.Scan ws h = record { of_actions = omega arith; of_micros = omega arith }
-operation_fits port (operationv.Reset phy x557) ws h = record { of_actions = omega arith; of_micros = omega arith }
-operation_fits port (operationv.Abilities phy) ws h = record { of_actions = omega arith; of_micros = omega arith }
-operation_fits port (operationv.Advertise asked) ws h = record { of_actions = omega arith; of_micros = omega arith }
-operation_fits port (operationv.AnLink phy) ws h = record { of_actions = omega arith; of_micros = omega arith }
-operation_fits port (operationv.KrRead address) ws h = record { of_actions = omega arith; of_micros = omega arith }
-operation_fits port (operationv.KrWrite address value) ws h = record { of_actions = omega arith; of_micros = omega arith }
-operation_fits port (operationv.KrModify c) ws h = record { of_actions = omega arith; of_micros = omega arith }
-operation_fits port operationv.RestartAn ws h = record { of_actions = omega arith; of_micros = omega arith }
-operation_fits port (operationv.KrAutoneg kr kx) ws h = record { of_actions = omega arith; of_micros = omega arith }
-operation_fits port (operationv.NvmWord word) ws h = record { of_actions = omega arith; of_micros = omega arith }
-operation_fits port operationv.AfterReset ws h = record { of_actions = omega arith; of_micros = omega arith }
-operation_fits port (operationv.Bringup veto) ws h = record { of_actions = omega arith; of_micros = omega arith }
-operation_fits port (operationv.Poll w) ws h = record { of_actions = omega arith; of_micros = omega arith }
+operation_fits port operationv.Veto ws h k = record { of_actions = omega arith; of_micros = omega arith }
+operation_fits port operationv.Link ws h k = record { of_actions = omega arith; of_micros = omega arith }
+operation_fits port (operationv.Acquire mask) ws h k = record { of_actions = omega arith; of_micros = omega arith }
+operation_fits port (operationv.Release mask) ws h k = record { of_actions = omega arith; of_micros = omega arith }
+operation_fits port operationv.Command ws h k = record { of_actions = omega arith; of_micros = omega arith }
+operation_fits port (operationv.Token take) ws h k = record { of_actions = omega arith; of_micros = omega arith }
+operation_fits port (operationv.PhyActivity asked) ws h k = record { of_actions = omega arith; of_micros = omega arith }
+operation_fits port (operationv.ReadReg phy device register) ws h k = record { of_actions = omega arith; of_micros = omega arith }
+operation_fits port (operationv.MdioList phy) ws h k = record { of_actions = omega (arith, k); of_micros = omega (arith, k) }
+operation_fits port (operationv.WriteReg phy device register value) ws h k = record { of_actions = omega arith; of_micros = omega arith }
+operation_fits port (operationv.Modify at) ws h k = record { of_actions = omega arith; of_micros = omega arith }
+operation_fits port (operationv.Probe phy) ws h k = record { of_actions = omega arith; of_micros = omega arith }
+operation_fits port operationv.Scan ws h k = record { of_actions = omega arith; of_micros = omega arith }
+operation_fits port (operationv.Reset phy x557) ws h k = record { of_actions = omega arith; of_micros = omega arith }
+operation_fits port (operationv.Abilities phy) ws h k = record { of_actions = omega arith; of_micros = omega arith }
+operation_fits port (operationv.Advertise asked) ws h k = record { of_actions = omega arith; of_micros = omega arith }
+operation_fits port (operationv.AnLink phy) ws h k = record { of_actions = omega arith; of_micros = omega arith }
+operation_fits port (operationv.KrRead address) ws h k = record { of_actions = omega arith; of_micros = omega arith }
+operation_fits port (operationv.KrWrite address value) ws h k = record { of_actions = omega arith; of_micros = omega arith }
+operation_fits port (operationv.KrModify c) ws h k = record { of_actions = omega arith; of_micros = omega arith }
+operation_fits port operationv.RestartAn ws h k = record { of_actions = omega arith; of_micros = omega arith }
+operation_fits port (operationv.KrAutoneg kr kx) ws h k = record { of_actions = omega arith; of_micros = omega arith }
+operation_fits port (operationv.NvmWord word) ws h k = record { of_actions = omega arith; of_micros = omega arith }
+operation_fits port operationv.AfterReset ws h k = record { of_actions = omega arith; of_micros = omega arith }
+operation_fits port (operationv.Bringup veto) ws h k = record { of_actions = omega arith; of_micros = omega arith }
+operation_fits port (operationv.Poll w) ws h k = record { of_actions = omega arith; of_micros = omega arith }

@@ -38,7 +38,7 @@ unfolding acquire.acquire_lost acquire.acquire_given acquire.acquire_got acquire
 acquire_computing = tt
 
 unfoldable pub mdio_computing : ⊤
-unfolding mdio.cycle mdio.mask mdio.read_reg mdio.write_reg mdio.modify mdio.probe mdio.scan mdio.reset mdio.speeds_of
+unfolding mdio.cycle mdio.mask mdio.read_reg mdio.mdio_list mdio.write_reg mdio.modify mdio.probe mdio.scan mdio.reset mdio.speeds_of
     mdio.abilities mdio.bit mdio.nbase_keep mdio.nbase_set mdio.advertise mdio.an_link
 mdio_computing = tt
 

@@ -27,6 +27,7 @@ use Rattle.operations.specs.declared.Operation.TheVariants.{
   Token,
   PhyActivity,
   ReadReg,
+  MdioList,
   WriteReg,
   Modify,
   Probe,
@@ -61,6 +62,7 @@ use Rattle.operations.specs.Example.{
   failed,
   ones,
   holding,
+  cycled,
   phy_read,
   phy_written,
   phy_changed,
@@ -209,6 +211,22 @@ token_busy : of (operation at553 (ReadReg 3 7 0xc800) []) (holding busy ++ phy55
     ≡ ended 127 5070 (Ok (valuev.Word 7), [])
 unfolding computing
 token_busy = refl
+
+-- two registers under one hold
+list_of_two : of (operation at552 (MdioList 3) (7 ∷ 0xc800 ∷ 1 ∷ 4 ∷ [])) (holding (cycled 7 ++ cycled 9)) ≡ ended 33 50 (Ok (valuev.List 2), 7 ∷ 9 ∷ [])
+unfolding computing
+list_of_two = refl
+
+-- the second cannot be read: its error, with the first one's value
+list_failed : of (operation at552 (MdioList 3) (7 ∷ 0xc800 ∷ 1 ∷ 4 ∷ [])) (holding (cycled 7 ++ zeros 4 ++ (failed 5 ∷ [])))
+    ≡ ended 33 50 (Err (Io 5), 7 ∷ [])
+unfolding computing
+list_failed = refl
+
+-- an empty one
+list_of_none : of (operation at552 (MdioList 3) []) [] ≡ ended 0 0 (Ok (valuev.List 0), [])
+unfolding computing
+list_of_none = refl
 
 -- MSCA never free: a wait before each of its hundred reads
 phy_busy : of (operation at552 (ReadReg 3 7 0xc800) []) (holding (Ok 0 ∷ copies 100 (Ok 0x40000000 ∷ [])))

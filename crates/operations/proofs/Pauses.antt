@@ -15,6 +15,7 @@ use Rattle.reference.specs.Hardware as hardware
 use Rattle.reference.specs.Out.{answer}
 use Rattle.reference.specs.Pauses.{paced, with_pause}
 use Rattle.operations.specs.Operations.{operation_with}
+use Rattle.operations.specs.Pairs.{pairs_of}
 use Rattle.operations.specs.Request.{request, refused}
 use Rattle.operations.proofs.Computing.{computing}
 use Rattle.hardware.specs.Refusal.{refusal}
@@ -23,7 +24,7 @@ use Rattle.operations.specs.declared.Operation.TheVariants as operationv
 use Rattle.reference.proofs.Alike.{Same, Still, at_end, alike_paced, ends, bind, picks, reads, keeps, lends}
 use Rattle.reference.proofs.Pauses.Hostif.{of_command, of_token, of_activity}
 use Rattle.reference.proofs.Pauses.Acquire.{of_acquire, of_release}
-use Rattle.reference.proofs.Pauses.Mdio.{of_read_reg, of_write_reg, of_modify, of_probe, of_scan, of_reset, of_abilities, of_advertise, of_an_link}
+use Rattle.reference.proofs.Pauses.Mdio.{of_read_reg, of_list, of_write_reg, of_modify, of_probe, of_scan, of_reset, of_abilities, of_advertise, of_an_link}
 use Rattle.reference.proofs.Pauses.X552.{of_kr_read, of_kr_write, of_kr_modify, of_restart, of_autoneg, of_nvm}
 use Rattle.reference.proofs.Pauses.X553.{of_family_reset, of_bringup, of_poll}
 
@@ -45,6 +46,7 @@ module _ (p q : ℕ) (port : Port) where
   alike (operationv.Token take) ws = of_answer _ (of_token port take)
   alike (operationv.PhyActivity asked) ws = of_answer _ (of_activity port asked.activity asked.data.w0 asked.data.w1 asked.data.w2 asked.data.w3)
   alike (operationv.ReadReg phy device register) ws = of_answer _ (of_read_reg port phy device register)
+  alike (operationv.MdioList phy) ws = lends (of_list port phy (pairs_of ws)) (λ c e _ values. at_end e)
   alike (operationv.WriteReg phy device register value) ws = of_answer _ (of_write_reg port phy device register value)
   alike (operationv.Modify at) ws = of_answer _ (of_modify port at.phy at.device at.register at.keep at.set)
   alike (operationv.Probe phy) ws = of_answer _ (of_probe port phy)
@@ -84,6 +86,7 @@ module _ (p : ℕ) (port : Port) (h : (eqb p 0 || ltb 100 p) ≡ false) (k : (eq
   same_else (operationv.Token take) ws = (refl, rw (h, k) refl)
   same_else (operationv.PhyActivity asked) ws = (refl, rw (h, k) refl)
   same_else (operationv.ReadReg phy device register) ws = (refl, rw (h, k) refl)
+  same_else (operationv.MdioList phy) ws = (refl, rw (h, k) refl)
   same_else (operationv.WriteReg phy device register value) ws = (refl, rw (h, k) refl)
   same_else (operationv.Modify at) ws = (refl, rw (h, k) refl)
   same_else (operationv.Probe phy) ws = (refl, rw (h, k) refl)

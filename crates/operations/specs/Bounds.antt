@@ -1,10 +1,11 @@
 -- Actions and microseconds of every operation at the most, for a sideband's wait of up to 100 microseconds. Not the least
 -- such numbers
-use Rattle.std.specs.Prelude.{ℕ, ◌+◌, List, length}
+use Rattle.std.specs.Prelude.{ℕ, ◌+◌, ◌*◌, List, length}
+use Rattle.operations.specs.Pairs.{pairs_of}
 use Rattle.operations.specs.declared.Operation.{Operation}
 use Rattle.operations.specs.declared.Operation.TheVariants as operationv
 
--- actions, and microseconds; of a command by the words of its block
+-- actions, and microseconds; of a command by the words of its block, of a list by its pairs
 abbrev pub most : Operation → List ℕ → ℕ × ℕ
 most operationv.Veto ws = (1, 0)
 most operationv.Link ws = (1, 0)
@@ -14,6 +15,7 @@ most operationv.Command ws = (length ws + 8121083, 205702000)
 most (operationv.Token take) ws = (8121085, 205702000)
 most (operationv.PhyActivity asked) ws = (406054500, 10285101000)
 most (operationv.ReadReg phy device register) ws = (16150229502, 411114906000)
+most (operationv.MdioList phy) ws = (16150229099 + 403 * length (pairs_of ws), 411114904000 + 2000 * length (pairs_of ws))
 most (operationv.WriteReg phy device register value) ws = (16150229502, 411114906000)
 most (operationv.Modify at) ws = (32300459004, 822229812000)
 most (operationv.Probe phy) ws = (32300459004, 822229812000)

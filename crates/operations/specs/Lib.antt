@@ -1,4 +1,5 @@
 pub mod Operations
+pub mod Pairs
 pub mod Request
 pub mod Bounds
 pub mod Example

@@ -1,4 +1,4 @@
--- The 25 operations: which function of the Rust each is
+-- The 26 operations: which function of the Rust each is
 use Rattle.std.specs.Prelude.{ℕ, List, [], length}
 use Rattle.hardware.specs.Talk.{Talk}
 use Rattle.hardware.specs.Block.{keep}
@@ -13,10 +13,17 @@ use Rattle.reference.specs.Mdio as mdio
 use Rattle.reference.specs.Out.{Out, answer, nothing, poll_value}
 use Rattle.reference.specs.Watch as watch
 use Rattle.reference.specs.X552 as x552
+use Rattle.operations.specs.Pairs.{pairs_of}
 use Rattle.operations.specs.declared.Operation.{Operation}
 use Rattle.operations.specs.declared.Operation.TheVariants as operationv
 
--- `pause`: the microseconds of the sideband's wait; `ws`: the words of the host block, of which a `command` alone makes use
+-- a list's answer: as many values as it has pairs
+abbrev pub list_operation : Port → ℕ → List (ℕ × ℕ) → Talk Out
+list_operation port phy pairs =
+    blk.◌>>=◌ (λ _. mdio.mdio_list port phy pairs) (λ _. blk.return (valuev.List (length pairs))) []
+
+-- `pause`: the microseconds of the sideband's wait; `ws`: the words that are lent, the host block of a `command` or the pairs of an
+-- `mdio_list`; no other operation makes use of any
 abbrev pub operation_with : ℕ → Port → Operation → List ℕ → Talk Out
 operation_with pause port operationv.Veto ws = answer valuev.Flag hardware.veto
 operation_with pause port operationv.Link ws = answer valuev.Link (hardware.link port.family)
@@ -28,6 +35,7 @@ operation_with pause port (operationv.Token take) ws = answer valuev.Flag (hosti
 operation_with pause port (operationv.PhyActivity asked) ws =
     answer valuev.Activity (hostif.phy_activity port asked.activity asked.data.w0 asked.data.w1 asked.data.w2 asked.data.w3)
 operation_with pause port (operationv.ReadReg phy device register) ws = answer valuev.Word (mdio.read_reg port phy device register)
+operation_with pause port (operationv.MdioList phy) ws = list_operation port phy (pairs_of ws)
 operation_with pause port (operationv.WriteReg phy device register value) ws =
     answer nothing (mdio.write_reg port phy device register value)
 operation_with pause port (operationv.Modify at) ws = answer valuev.Word (mdio.modify port at.phy at.device at.register at.keep at.set)

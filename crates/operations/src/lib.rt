@@ -1,9 +1,12 @@
 // The operations: what can be begun, with which arguments. Which function of the Rust each is stands in specs/.
 #![tactic(auto)]
 
-ghost use Rattle.std.specs.Prelude.{◌≡◌};
-ghost use Rattle.operations.specs.Request.{at_port, at_phy, at_kr, request, refused};
+pub mod pairs;
 
+ghost use Rattle.std.specs.Prelude.{◌≡◌};
+ghost use Rattle.operations.specs.Request.{at_port, at_phy, at_kr, at_list, request, refused};
+
+use crate::pairs::{count, is_outside};
 use arguments::{Advertised, Asked, Change, Register, Watch};
 use hardware::{Error, Port, Request};
 use words::kr_address::krm;
@@ -24,6 +27,8 @@ pub enum Operation {
     PhyActivity(Asked),
     // phy, device, register
     ReadReg(u32, u32, u16),
+    // phy; its pairs of device and register are the words that are lent
+    MdioList(u32),
     // phy, device, register, value
     WriteReg(u32, u32, u16, u16),
     Modify(Register),
@@ -61,6 +66,8 @@ fn at_port(port: Port) -> Request
         port,
         phy: 0,
         device: 0,
+        outside: false,
+        pairs: 0,
         kr: 0,
         selected: 0,
         words: 0,
@@ -89,6 +96,18 @@ fn at_kr(port: Port, kr: u32, selected: u32) -> Request
     }
 }
 
+// With a PHY's address and a list of pairs.
+fn at_list(port: Port, phy: u32, words: &[u32]) -> Request
+    ensures { at_list port phy words.now ≡ result }
+{
+    Request {
+        phy,
+        outside: is_outside(words),
+        pairs: count(words),
+        ..at_port(port)
+    }
+}
+
 impl Operation {
     // What a call of `begin` with these lent words asks for.
     #[tactic(auto, unfolding(crate::specs::Request::request))]
@@ -101,6 +120,7 @@ impl Operation {
                 ..at_port(port)
             },
             Operation::ReadReg(phy, device, _) => at_phy(port, phy, device),
+            Operation::MdioList(phy) => at_list(port, phy, block),
             Operation::WriteReg(phy, device, _, _) => at_phy(port, phy, device),
             Operation::Modify(at) => at_phy(port, at.phy, at.device),
             Operation::Probe(phy) => at_phy(port, phy, 0),
@@ -116,7 +136,7 @@ impl Operation {
         }
     }
 
-    // Whether the call is turned away: 20, 21, 22, 35, 23 or 32.
+    // Whether the call is turned away: 20, 21, 22, 35, 31, 23 or 32.
     pub fn refused(self, port: Port, block: &[u32]) -> Result<(), Error>
         ensures { refused port self block.now ≡ result }
     {

@@ -39,17 +39,19 @@ get_held s =
     pick (eqb (word_at s 0) 2) (heldv.Kr (record { pause = (word_at s 1); wanted = (get_kr_wanted (drop 2 s)) })) (
     heldv.Nvm (word_at s 1 % 65536)))
 
--- 7 words
+-- 8 words
 unfoldable pub words_hold_for : HoldFor → List ℕ
-words_hold_for hold_forv.Alone = 1 ∷ replicate 6 0
-words_hold_for (hold_forv.Acquiring held) = 2 ∷ (words_held held) ++ (0 ∷ [])
-words_hold_for (hold_forv.Releasing word_or_error) = 3 ∷ words_result 1 5 words_word words_error word_or_error
+words_hold_for hold_forv.Alone = 1 ∷ replicate 7 0
+words_hold_for (hold_forv.Acquiring held) = 2 ∷ (words_held held) ++ (replicate 2 0)
+words_hold_for (hold_forv.Listing x y z) = 3 ∷ x ∷ y ∷ z ∷ replicate 4 0
+words_hold_for (hold_forv.Releasing word_or_error y) = 4 ∷ y ∷ words_result 1 5 words_word words_error word_or_error
 
 unfoldable pub get_hold_for : List ℕ → HoldFor
 get_hold_for s =
     pick (eqb (word_at s 0) 1) (hold_forv.Alone) (
     pick (eqb (word_at s 0) 2) (hold_forv.Acquiring (get_held (drop 1 s))) (
-    hold_forv.Releasing (get_result get_word get_error (drop 1 s))))
+    pick (eqb (word_at s 0) 3) (hold_forv.Listing (word_at s 1) (word_at s 2 % 256) (word_at s 3 % 256)) (
+    hold_forv.Releasing (get_result get_word get_error (drop 2 s)) (word_at s 1 % 256))))
 
 -- 8 words
 unfoldable pub words_bits_place : BitsPlace → List ℕ

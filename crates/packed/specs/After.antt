@@ -54,12 +54,13 @@ words_after afterv.Veto = 3 ∷ replicate 19 0
 words_after afterv.Link = 4 ∷ replicate 19 0
 words_after afterv.Abilities = 5 ∷ replicate 19 0
 words_after (afterv.Command x) = 6 ∷ x ∷ replicate 18 0
-words_after (afterv.Token x) = 7 ∷ (flag_of x) ∷ replicate 18 0
-words_after (afterv.Activity asked activity) = 8 ∷ asked.activity ∷ asked.«data».w0 ∷ asked.«data».w1 ∷ asked.«data».w2 ∷ asked.«data».w3 ∷ (words_activity activity) ++ (replicate 11 0)
-words_after (afterv.Mdio mdio) = 9 ∷ (words_mdio mdio) ++ (replicate 8 0)
-words_after (afterv.Kr kr) = 10 ∷ (words_kr kr) ++ (replicate 11 0)
-words_after (afterv.Bringup x bringup) = 11 ∷ (flag_of x) ∷ words_bringup bringup
-words_after (afterv.Poll watch poll) = 12 ∷ watch.phy ∷ watch.reforced ∷ (words_internal watch.internal) ++ ((words_option 1 words_word watch.forced) ++ ((words_poll poll) ++ (replicate 4 0)))
+words_after (afterv.List x) = 7 ∷ x ∷ replicate 18 0
+words_after (afterv.Token x) = 8 ∷ (flag_of x) ∷ replicate 18 0
+words_after (afterv.Activity asked activity) = 9 ∷ asked.activity ∷ asked.«data».w0 ∷ asked.«data».w1 ∷ asked.«data».w2 ∷ asked.«data».w3 ∷ (words_activity activity) ++ (replicate 11 0)
+words_after (afterv.Mdio mdio) = 10 ∷ (words_mdio mdio) ++ (replicate 8 0)
+words_after (afterv.Kr kr) = 11 ∷ (words_kr kr) ++ (replicate 11 0)
+words_after (afterv.Bringup x bringup) = 12 ∷ (flag_of x) ∷ words_bringup bringup
+words_after (afterv.Poll watch poll) = 13 ∷ watch.phy ∷ watch.reforced ∷ (words_internal watch.internal) ++ ((words_option 1 words_word watch.forced) ++ ((words_poll poll) ++ (replicate 4 0)))
 
 unfoldable pub get_after : List ℕ → After
 get_after s =
@@ -69,9 +70,10 @@ get_after s =
     pick (eqb (word_at s 0) 4) (afterv.Link) (
     pick (eqb (word_at s 0) 5) (afterv.Abilities) (
     pick (eqb (word_at s 0) 6) (afterv.Command (word_at s 1)) (
-    pick (eqb (word_at s 0) 7) (afterv.Token (is (word_at s 1))) (
-    pick (eqb (word_at s 0) 8) (afterv.Activity (record { activity = (word_at s 1 % 65536); «data» = (record { w0 = (word_at s 2); w1 = (word_at s 3); w2 = (word_at s 4); w3 = (word_at s 5) }) }) (get_activity (drop 6 s))) (
-    pick (eqb (word_at s 0) 9) (afterv.Mdio (get_mdio (drop 1 s))) (
-    pick (eqb (word_at s 0) 10) (afterv.Kr (get_kr (drop 1 s))) (
-    pick (eqb (word_at s 0) 11) (afterv.Bringup (is (word_at s 1)) (get_bringup (drop 2 s))) (
-    afterv.Poll (record { phy = (word_at s 1); internal = (get_internal (drop 3 s)); forced = (get_option get_half (drop 4 s)); reforced = (word_at s 2) }) (get_poll (drop 2 (drop 4 s))))))))))))))
+    pick (eqb (word_at s 0) 7) (afterv.List (word_at s 1)) (
+    pick (eqb (word_at s 0) 8) (afterv.Token (is (word_at s 1))) (
+    pick (eqb (word_at s 0) 9) (afterv.Activity (record { activity = (word_at s 1 % 65536); «data» = (record { w0 = (word_at s 2); w1 = (word_at s 3); w2 = (word_at s 4); w3 = (word_at s 5) }) }) (get_activity (drop 6 s))) (
+    pick (eqb (word_at s 0) 10) (afterv.Mdio (get_mdio (drop 1 s))) (
+    pick (eqb (word_at s 0) 11) (afterv.Kr (get_kr (drop 1 s))) (
+    pick (eqb (word_at s 0) 12) (afterv.Bringup (is (word_at s 1)) (get_bringup (drop 2 s))) (
+    afterv.Poll (record { phy = (word_at s 1); internal = (get_internal (drop 3 s)); forced = (get_option get_half (drop 4 s)); reforced = (word_at s 2) }) (get_poll (drop 2 (drop 4 s)))))))))))))))

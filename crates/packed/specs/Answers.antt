@@ -80,13 +80,14 @@ words_value (valuev.Flag x) = 2 ∷ (flag_of x) ∷ replicate 11 0
 words_value (valuev.Word x) = 3 ∷ x ∷ replicate 11 0
 words_value (valuev.Link link) = 4 ∷ (words_link link) ++ (replicate 9 0)
 words_value (valuev.Command status words) = 5 ∷ status ∷ words ∷ replicate 10 0
-words_value (valuev.Activity x) = 6 ∷ x.w0 ∷ x.w1 ∷ x.w2 ∷ x.w3 ∷ replicate 8 0
-words_value (valuev.Probe maybe_word) = 7 ∷ (words_option 1 words_word maybe_word) ++ (replicate 10 0)
-words_value (valuev.Scan maybe_byte_word) = 8 ∷ (words_option 2 words_byte_word maybe_byte_word) ++ (replicate 9 0)
-words_value (valuev.Abilities speeds) = 9 ∷ (flag_of speeds.g10) ∷ (flag_of speeds.g1) ∷ (flag_of speeds.m100) ∷ replicate 9 0
-words_value (valuev.X552 setup552) = 10 ∷ (words_setup552 setup552) ++ (0 ∷ [])
-words_value (valuev.X553 setup553) = 11 ∷ words_setup553 setup553
-words_value (valuev.Poll copper forced reforced) = 12 ∷ reforced ∷ (words_copper copper) ++ ((words_option 1 words_word forced) ++ (replicate 7 0))
+words_value (valuev.List x) = 6 ∷ x ∷ replicate 11 0
+words_value (valuev.Activity x) = 7 ∷ x.w0 ∷ x.w1 ∷ x.w2 ∷ x.w3 ∷ replicate 8 0
+words_value (valuev.Probe maybe_word) = 8 ∷ (words_option 1 words_word maybe_word) ++ (replicate 10 0)
+words_value (valuev.Scan maybe_byte_word) = 9 ∷ (words_option 2 words_byte_word maybe_byte_word) ++ (replicate 9 0)
+words_value (valuev.Abilities speeds) = 10 ∷ (flag_of speeds.g10) ∷ (flag_of speeds.g1) ∷ (flag_of speeds.m100) ∷ replicate 9 0
+words_value (valuev.X552 setup552) = 11 ∷ (words_setup552 setup552) ++ (0 ∷ [])
+words_value (valuev.X553 setup553) = 12 ∷ words_setup553 setup553
+words_value (valuev.Poll copper forced reforced) = 13 ∷ reforced ∷ (words_copper copper) ++ ((words_option 1 words_word forced) ++ (replicate 7 0))
 
 unfoldable pub get_value : List ℕ → Value
 get_value s =
@@ -95,10 +96,11 @@ get_value s =
     pick (eqb (word_at s 0) 3) (valuev.Word (word_at s 1)) (
     pick (eqb (word_at s 0) 4) (valuev.Link (get_link (drop 1 s))) (
     pick (eqb (word_at s 0) 5) (valuev.Command (word_at s 1 % 256) (word_at s 2)) (
-    pick (eqb (word_at s 0) 6) (valuev.Activity (record { w0 = (word_at s 1); w1 = (word_at s 2); w2 = (word_at s 3); w3 = (word_at s 4) })) (
-    pick (eqb (word_at s 0) 7) (valuev.Probe (get_option get_word (drop 1 s))) (
-    pick (eqb (word_at s 0) 8) (valuev.Scan (get_option get_byte_word (drop 1 s))) (
-    pick (eqb (word_at s 0) 9) (valuev.Abilities (record { g10 = (is (word_at s 1)); g1 = (is (word_at s 2)); m100 = (is (word_at s 3)) })) (
-    pick (eqb (word_at s 0) 10) (valuev.X552 (get_setup552 (drop 1 s))) (
-    pick (eqb (word_at s 0) 11) (valuev.X553 (get_setup553 (drop 1 s))) (
-    valuev.Poll (get_copper (drop 2 s)) (get_option get_half (drop 4 s)) (word_at s 1))))))))))))
+    pick (eqb (word_at s 0) 6) (valuev.List (word_at s 1)) (
+    pick (eqb (word_at s 0) 7) (valuev.Activity (record { w0 = (word_at s 1); w1 = (word_at s 2); w2 = (word_at s 3); w3 = (word_at s 4) })) (
+    pick (eqb (word_at s 0) 8) (valuev.Probe (get_option get_word (drop 1 s))) (
+    pick (eqb (word_at s 0) 9) (valuev.Scan (get_option get_byte_word (drop 1 s))) (
+    pick (eqb (word_at s 0) 10) (valuev.Abilities (record { g10 = (is (word_at s 1)); g1 = (is (word_at s 2)); m100 = (is (word_at s 3)) })) (
+    pick (eqb (word_at s 0) 11) (valuev.X552 (get_setup552 (drop 1 s))) (
+    pick (eqb (word_at s 0) 12) (valuev.X553 (get_setup553 (drop 1 s))) (
+    valuev.Poll (get_copper (drop 2 s)) (get_option get_half (drop 4 s)) (word_at s 1)))))))))))))

@@ -24,8 +24,9 @@ words_error errorv.Lan = 10 ∷ replicate 4 0
 words_error errorv.Fiber = 11 ∷ replicate 4 0
 words_error errorv.Address = 12 ∷ replicate 4 0
 words_error errorv.KrAddress = 13 ∷ replicate 4 0
-words_error errorv.Block = 14 ∷ replicate 4 0
-words_error errorv.Pause = 15 ∷ replicate 4 0
+words_error errorv.Pairs = 14 ∷ replicate 4 0
+words_error errorv.Block = 15 ∷ replicate 4 0
+words_error errorv.Pause = 16 ∷ replicate 4 0
 
 unfoldable pub get_error : List ℕ → Error
 get_error s =
@@ -42,8 +43,9 @@ get_error s =
     pick (eqb (word_at s 0) 11) (errorv.Fiber) (
     pick (eqb (word_at s 0) 12) (errorv.Address) (
     pick (eqb (word_at s 0) 13) (errorv.KrAddress) (
-    pick (eqb (word_at s 0) 14) (errorv.Block) (
-    errorv.Pause))))))))))))))
+    pick (eqb (word_at s 0) 14) (errorv.Pairs) (
+    pick (eqb (word_at s 0) 15) (errorv.Block) (
+    errorv.Pause)))))))))))))))
 
 -- 1 words
 unfoldable pub words_family : Family → List ℕ

@@ -14,12 +14,12 @@ use Rattle.packed.specs.Hardware.{get_action, get_error, words_action, words_err
 use Rattle.packed.specs.Packed.{get_result, words_result}
 use Rattle.started.specs.declared.operation.Op.{Op}
 
--- 58 words
+-- 59 words
 unfoldable pub words_place : Step Action Op (Ended Value) → List ℕ
-words_place (stepv.Done ended) = 1 ∷ (ended.words % 4294967296) ∷ (ended.words / 4294967296) ∷ (words_result 13 5 words_value words_error ended.answer) ++ (replicate 41 0)
+words_place (stepv.Done ended) = 1 ∷ (ended.words % 4294967296) ∷ (ended.words / 4294967296) ∷ (words_result 13 5 words_value words_error ended.answer) ++ (replicate 42 0)
 words_place (stepv.Ask action op) = 2 ∷ op.access.under.frame.regs.swsm ∷ op.access.under.frame.regs.sync ∷ op.access.under.frame.lan ∷ op.access.under.frame.mask ∷ (flag_of op.access.under.frame.mux) ∷ (words_action action) ++ ((words_hold_for op.access.under.hold) ++ ((words_access_place op.access.place) ++ (words_after op.after)))
 
 unfoldable pub get_place : List ℕ → Step Action Op (Ended Value)
 get_place s =
     pick (eqb (word_at s 0) 1) (stepv.Done (record { answer = (get_result get_value get_error (drop 3 s)); words = (joined (word_at s 1) (word_at s 2)) })) (
-    stepv.Ask (get_action (drop 6 s)) (record { access = (record { under = (record { frame = (record { regs = (record { swsm = (word_at s 1); sync = (word_at s 2) }); lan = (word_at s 3); mask = (word_at s 4); mux = (is (word_at s 5)) }); hold = (get_hold_for (drop 9 s)) }); place = (get_access_place (drop 7 (drop 9 s))) }); after = (get_after (drop 22 (drop 7 (drop 9 s)))) }))
+    stepv.Ask (get_action (drop 6 s)) (record { access = (record { under = (record { frame = (record { regs = (record { swsm = (word_at s 1); sync = (word_at s 2) }); lan = (word_at s 3); mask = (word_at s 4); mux = (is (word_at s 5)) }); hold = (get_hold_for (drop 9 s)) }); place = (get_access_place (drop 8 (drop 9 s))) }); after = (get_after (drop 22 (drop 8 (drop 9 s)))) }))

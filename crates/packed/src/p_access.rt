@@ -2,8 +2,8 @@
 ghost use Rattle.packed.specs.Access.{get_access_place, get_bits_place, get_body, get_command_for, get_command_place, get_held, get_hold_for, get_sync_for, get_token_place, words_access_place, words_bits_place, words_body, words_command_for, words_command_place, words_held, words_hold_for, words_sync_for, words_token_place};
 
 use crate::packed::Packed;
-use crate::read::{after, half, joined, word_at};
-use crate::tape::{long, wide, word, zeros};
+use crate::read::{after, byte, half, joined, word_at};
+use crate::tape::{long, wide, wide_byte, word, zeros};
 use access::body::{Body, Held};
 use access::place::{
     AccessPlace, BitsPlace, CommandFor, CommandPlace, HoldFor, SyncFor, TokenPlace,
@@ -20,7 +20,7 @@ impl Packed for Held {
     ghost read = { get_held };
 
     #[tactic(auto, unfolding(crate::specs::Access::words_held, crate::specs::Access::get_held, crate::specs::Tape::word_at))]
-    fn put(self, tape: &mut [u32; 66], at: usize) -> usize {
+    fn put(self, tape: &mut [u32; 67], at: usize) -> usize {
         match self {
             Held::Mdio(wanted) => {
                 let at = word(tape, at, 1);
@@ -62,19 +62,27 @@ impl Packed for HoldFor {
     ghost read = { get_hold_for };
 
     #[tactic(auto, unfolding(crate::specs::Access::words_hold_for, crate::specs::Access::get_hold_for, crate::specs::Tape::word_at))]
-    fn put(self, tape: &mut [u32; 66], at: usize) -> usize {
+    fn put(self, tape: &mut [u32; 67], at: usize) -> usize {
         match self {
             HoldFor::Alone => {
                 let at = word(tape, at, 1);
-                zeros(tape, at, 6)
+                zeros(tape, at, 7)
             },
             HoldFor::Acquiring(held) => {
                 let at = word(tape, at, 2);
                 let at = held.put(tape, at);
-                word(tape, at, 0)
+                zeros(tape, at, 2)
             },
-            HoldFor::Releasing(word_or_error) => {
+            HoldFor::Listing(x, y, z) => {
                 let at = word(tape, at, 3);
+                let at = word(tape, at, x);
+                let at = word(tape, at, wide_byte(y));
+                let at = word(tape, at, wide_byte(z));
+                zeros(tape, at, 4)
+            },
+            HoldFor::Releasing(word_or_error, y) => {
+                let at = word(tape, at, 4);
+                let at = word(tape, at, wide_byte(y));
                 word_or_error.put(tape, at)
             },
         }
@@ -87,8 +95,17 @@ impl Packed for HoldFor {
             HoldFor::Alone
         } else if kind == 2 {
             HoldFor::Acquiring(Held::get(tape, after(tape, at, 1)))
+        } else if kind == 3 {
+            HoldFor::Listing(
+                word_at(tape, at, 1),
+                byte(word_at(tape, at, 2)),
+                byte(word_at(tape, at, 3)),
+            )
         } else {
-            HoldFor::Releasing(Result::get(tape, after(tape, at, 1)))
+            HoldFor::Releasing(
+                Result::get(tape, after(tape, at, 2)),
+                byte(word_at(tape, at, 1)),
+            )
         }
     }
 }
@@ -99,7 +116,7 @@ impl Packed for BitsPlace {
     ghost read = { get_bits_place };
 
     #[tactic(auto, unfolding(crate::specs::Access::words_bits_place, crate::specs::Access::get_bits_place, crate::specs::Tape::word_at))]
-    fn put(self, tape: &mut [u32; 66], at: usize) -> usize {
+    fn put(self, tape: &mut [u32; 67], at: usize) -> usize {
         match self {
             BitsPlace::Plain => {
                 let at = word(tape, at, 1);
@@ -144,7 +161,7 @@ impl Packed for TokenPlace {
     ghost read = { get_token_place };
 
     #[tactic(auto, using(crate::proofs::Laws::word_then), unfolding(crate::specs::Access::words_token_place, crate::specs::Access::get_token_place, crate::specs::Tape::word_at))]
-    fn put(self, tape: &mut [u32; 66], at: usize) -> usize {
+    fn put(self, tape: &mut [u32; 67], at: usize) -> usize {
         match self {
             TokenPlace::Taking(x) => {
                 let at = word(tape, at, 1);
@@ -174,7 +191,7 @@ impl Packed for CommandFor {
     ghost read = { get_command_for };
 
     #[tactic(auto, using(crate::proofs::Laws::word_then, crate::proofs::Laws::joined_back), unfolding(crate::specs::Access::words_command_for, crate::specs::Access::get_command_for, crate::specs::Tape::word_at))]
-    fn put(self, tape: &mut [u32; 66], at: usize) -> usize {
+    fn put(self, tape: &mut [u32; 67], at: usize) -> usize {
         match self {
             CommandFor::Job(x) => {
                 let at = word(tape, at, 1);
@@ -204,7 +221,7 @@ impl Packed for CommandPlace {
     ghost read = { get_command_place };
 
     #[tactic(auto, using(crate::proofs::Laws::word_then), unfolding(crate::specs::Access::words_command_place, crate::specs::Access::get_command_place, crate::specs::Tape::word_at))]
-    fn put(self, tape: &mut [u32; 66], at: usize) -> usize {
+    fn put(self, tape: &mut [u32; 67], at: usize) -> usize {
         match self {
             CommandPlace::Acquiring => {
                 let at = word(tape, at, 1);
@@ -234,7 +251,7 @@ impl Packed for SyncFor {
     ghost read = { get_sync_for };
 
     #[tactic(auto, unfolding(crate::specs::Access::words_sync_for, crate::specs::Access::get_sync_for, crate::specs::Tape::word_at))]
-    fn put(self, tape: &mut [u32; 66], at: usize) -> usize {
+    fn put(self, tape: &mut [u32; 67], at: usize) -> usize {
         match self {
             SyncFor::Bits(bits_place) => {
                 let at = word(tape, at, 1);
@@ -269,7 +286,7 @@ impl Packed for Body {
     ghost read = { get_body };
 
     #[tactic(auto, unfolding(crate::specs::Access::words_body, crate::specs::Access::get_body, crate::specs::Tape::word_at))]
-    fn put(self, tape: &mut [u32; 66], at: usize) -> usize {
+    fn put(self, tape: &mut [u32; 67], at: usize) -> usize {
         match self {
             Body::Mdio(wanted, mdio) => {
                 let at = word(tape, at, 1);
@@ -319,7 +336,7 @@ impl Packed for AccessPlace {
     ghost read = { get_access_place };
 
     #[tactic(auto, unfolding(crate::specs::Access::words_access_place, crate::specs::Access::get_access_place, crate::specs::Tape::word_at))]
-    fn put(self, tape: &mut [u32; 66], at: usize) -> usize {
+    fn put(self, tape: &mut [u32; 67], at: usize) -> usize {
         match self {
             AccessPlace::Reading => {
                 let at = word(tape, at, 1);

@@ -28,7 +28,7 @@ impl Packed for Mdio {
     ghost read = { get_mdio };
 
     #[tactic(auto, using(crate::proofs::Laws::is_flag), unfolding(crate::specs::After::words_mdio, crate::specs::After::get_mdio, crate::specs::Tape::word_at))]
-    fn put(self, tape: &mut [u32; 66], at: usize) -> usize {
+    fn put(self, tape: &mut [u32; 67], at: usize) -> usize {
         match self {
             Mdio::Modify(register, modify) => {
                 let at = word(tape, at, 1);
@@ -146,7 +146,7 @@ impl Packed for Kr {
     ghost read = { get_kr };
 
     #[tactic(auto, unfolding(crate::specs::After::words_kr, crate::specs::After::get_kr, crate::specs::Tape::word_at))]
-    fn put(self, tape: &mut [u32; 66], at: usize) -> usize {
+    fn put(self, tape: &mut [u32; 67], at: usize) -> usize {
         match self {
             Kr::Modify(change, kr_modify) => {
                 let at = word(tape, at, 1);
@@ -193,7 +193,7 @@ impl Packed for After {
     ghost read = { get_after };
 
     #[tactic(auto, using(crate::proofs::Laws::is_flag), unfolding(crate::specs::After::words_after, crate::specs::After::get_after, crate::specs::Tape::word_at))]
-    fn put(self, tape: &mut [u32; 66], at: usize) -> usize {
+    fn put(self, tape: &mut [u32; 67], at: usize) -> usize {
         match self {
             After::Nothing => {
                 let at = word(tape, at, 1);
@@ -220,13 +220,18 @@ impl Packed for After {
                 let at = word(tape, at, x);
                 zeros(tape, at, 18)
             },
-            After::Token(x) => {
+            After::List(x) => {
                 let at = word(tape, at, 7);
+                let at = word(tape, at, x);
+                zeros(tape, at, 18)
+            },
+            After::Token(x) => {
+                let at = word(tape, at, 8);
                 let at = flag(tape, at, x);
                 zeros(tape, at, 18)
             },
             After::Activity(asked, activity) => {
-                let at = word(tape, at, 8);
+                let at = word(tape, at, 9);
                 let at = word(tape, at, wide(asked.activity));
                 let at = word(tape, at, asked.data.w0);
                 let at = word(tape, at, asked.data.w1);
@@ -236,22 +241,22 @@ impl Packed for After {
                 zeros(tape, at, 11)
             },
             After::Mdio(mdio) => {
-                let at = word(tape, at, 9);
+                let at = word(tape, at, 10);
                 let at = mdio.put(tape, at);
                 zeros(tape, at, 8)
             },
             After::Kr(kr) => {
-                let at = word(tape, at, 10);
+                let at = word(tape, at, 11);
                 let at = kr.put(tape, at);
                 zeros(tape, at, 11)
             },
             After::Bringup(x, bringup) => {
-                let at = word(tape, at, 11);
+                let at = word(tape, at, 12);
                 let at = flag(tape, at, x);
                 bringup.put(tape, at)
             },
             After::Poll(watch, poll) => {
-                let at = word(tape, at, 12);
+                let at = word(tape, at, 13);
                 let at = word(tape, at, watch.phy);
                 let at = word(tape, at, watch.reforced);
                 let at = watch.internal.put(tape, at);
@@ -278,8 +283,10 @@ impl Packed for After {
         } else if kind == 6 {
             After::Command(word_at(tape, at, 1))
         } else if kind == 7 {
-            After::Token(is(word_at(tape, at, 1)))
+            After::List(word_at(tape, at, 1))
         } else if kind == 8 {
+            After::Token(is(word_at(tape, at, 1)))
+        } else if kind == 9 {
             After::Activity(
                 Asked {
                     activity: half(word_at(tape, at, 1)),
@@ -292,11 +299,11 @@ impl Packed for After {
                 },
                 Activity::get(tape, after(tape, at, 6)),
             )
-        } else if kind == 9 {
-            After::Mdio(Mdio::get(tape, after(tape, at, 1)))
         } else if kind == 10 {
-            After::Kr(Kr::get(tape, after(tape, at, 1)))
+            After::Mdio(Mdio::get(tape, after(tape, at, 1)))
         } else if kind == 11 {
+            After::Kr(Kr::get(tape, after(tape, at, 1)))
+        } else if kind == 12 {
             After::Bringup(
                 is(word_at(tape, at, 1)),
                 Bringup::get(tape, after(tape, at, 2)),

@@ -16,7 +16,7 @@ impl Packed for Internal {
     ghost read = { get_internal };
 
     #[tactic(auto, unfolding(crate::specs::Answers::words_internal, crate::specs::Answers::get_internal, crate::specs::Tape::word_at))]
-    fn put(self, tape: &mut [u32; 66], at: usize) -> usize {
+    fn put(self, tape: &mut [u32; 67], at: usize) -> usize {
         match self {
             Internal::Ixfi => word(tape, at, 1),
             Internal::Kr => word(tape, at, 2),
@@ -40,7 +40,7 @@ impl Packed for Setup552 {
     ghost read = { get_setup552 };
 
     #[tactic(auto, using(crate::proofs::Laws::is_flag), unfolding(crate::specs::Answers::words_setup552, crate::specs::Answers::get_setup552, crate::specs::Tape::word_at))]
-    fn put(self, tape: &mut [u32; 66], at: usize) -> usize {
+    fn put(self, tape: &mut [u32; 67], at: usize) -> usize {
         match self {
             Setup552::Kx4 => {
                 let at = word(tape, at, 1);
@@ -121,7 +121,7 @@ impl Packed for Setup553 {
     ghost read = { get_setup553 };
 
     #[tactic(auto, using(crate::proofs::Laws::is_flag), unfolding(crate::specs::Answers::words_setup553, crate::specs::Answers::get_setup553, crate::specs::Tape::word_at))]
-    fn put(self, tape: &mut [u32; 66], at: usize) -> usize {
+    fn put(self, tape: &mut [u32; 67], at: usize) -> usize {
         match self {
             Setup553::Kr { link_ctrl } => {
                 let at = word(tape, at, 1);
@@ -199,7 +199,7 @@ impl Packed for Copper {
     ghost read = { get_copper };
 
     #[tactic(auto, using(crate::proofs::Laws::word_then), unfolding(crate::specs::Answers::words_copper, crate::specs::Answers::get_copper, crate::specs::Tape::word_at))]
-    fn put(self, tape: &mut [u32; 66], at: usize) -> usize {
+    fn put(self, tape: &mut [u32; 67], at: usize) -> usize {
         match self {
             Copper::Down => {
                 let at = word(tape, at, 1);
@@ -239,7 +239,7 @@ impl Packed for Value {
     ghost read = { get_value };
 
     #[tactic(auto, using(crate::proofs::Laws::is_flag), unfolding(crate::specs::Answers::words_value, crate::specs::Answers::get_value, crate::specs::Tape::word_at))]
-    fn put(self, tape: &mut [u32; 66], at: usize) -> usize {
+    fn put(self, tape: &mut [u32; 67], at: usize) -> usize {
         match self {
             Value::Nothing => {
                 let at = word(tape, at, 1);
@@ -266,8 +266,13 @@ impl Packed for Value {
                 let at = word(tape, at, words);
                 zeros(tape, at, 10)
             },
-            Value::Activity(x) => {
+            Value::List(x) => {
                 let at = word(tape, at, 6);
+                let at = word(tape, at, x);
+                zeros(tape, at, 11)
+            },
+            Value::Activity(x) => {
+                let at = word(tape, at, 7);
                 let at = word(tape, at, x.w0);
                 let at = word(tape, at, x.w1);
                 let at = word(tape, at, x.w2);
@@ -275,29 +280,29 @@ impl Packed for Value {
                 zeros(tape, at, 8)
             },
             Value::Probe(maybe_word) => {
-                let at = word(tape, at, 7);
+                let at = word(tape, at, 8);
                 let at = maybe_word.put(tape, at);
                 zeros(tape, at, 10)
             },
             Value::Scan(maybe_byte_word) => {
-                let at = word(tape, at, 8);
+                let at = word(tape, at, 9);
                 let at = maybe_byte_word.put(tape, at);
                 zeros(tape, at, 9)
             },
             Value::Abilities(speeds) => {
-                let at = word(tape, at, 9);
+                let at = word(tape, at, 10);
                 let at = flag(tape, at, speeds.g10);
                 let at = flag(tape, at, speeds.g1);
                 let at = flag(tape, at, speeds.m100);
                 zeros(tape, at, 9)
             },
             Value::X552(setup552) => {
-                let at = word(tape, at, 10);
+                let at = word(tape, at, 11);
                 let at = setup552.put(tape, at);
                 word(tape, at, 0)
             },
             Value::X553(setup553) => {
-                let at = word(tape, at, 11);
+                let at = word(tape, at, 12);
                 setup553.put(tape, at)
             },
             Value::Poll {
@@ -305,7 +310,7 @@ impl Packed for Value {
                 forced,
                 reforced,
             } => {
-                let at = word(tape, at, 12);
+                let at = word(tape, at, 13);
                 let at = word(tape, at, reforced);
                 let at = copper.put(tape, at);
                 let at = forced.put(tape, at);
@@ -331,25 +336,27 @@ impl Packed for Value {
                 words: word_at(tape, at, 2),
             }
         } else if kind == 6 {
+            Value::List(word_at(tape, at, 1))
+        } else if kind == 7 {
             Value::Activity(Words {
                 w0: word_at(tape, at, 1),
                 w1: word_at(tape, at, 2),
                 w2: word_at(tape, at, 3),
                 w3: word_at(tape, at, 4),
             })
-        } else if kind == 7 {
-            Value::Probe(Option::get(tape, after(tape, at, 1)))
         } else if kind == 8 {
-            Value::Scan(Option::get(tape, after(tape, at, 1)))
+            Value::Probe(Option::get(tape, after(tape, at, 1)))
         } else if kind == 9 {
+            Value::Scan(Option::get(tape, after(tape, at, 1)))
+        } else if kind == 10 {
             Value::Abilities(Speeds {
                 g10: is(word_at(tape, at, 1)),
                 g1: is(word_at(tape, at, 2)),
                 m100: is(word_at(tape, at, 3)),
             })
-        } else if kind == 10 {
-            Value::X552(Setup552::get(tape, after(tape, at, 1)))
         } else if kind == 11 {
+            Value::X552(Setup552::get(tape, after(tape, at, 1)))
+        } else if kind == 12 {
             Value::X553(Setup553::get(tape, after(tape, at, 1)))
         } else {
             Value::Poll {

@@ -12,7 +12,7 @@ impl Packed for Error {
     ghost read = { get_error };
 
     #[tactic(auto, unfolding(crate::specs::Hardware::words_error, crate::specs::Hardware::get_error, crate::specs::Tape::word_at))]
-    fn put(self, tape: &mut [u32; 66], at: usize) -> usize {
+    fn put(self, tape: &mut [u32; 67], at: usize) -> usize {
         match self {
             Error::Io(x) => {
                 let at = word(tape, at, 1);
@@ -81,12 +81,16 @@ impl Packed for Error {
                 let at = word(tape, at, 13);
                 zeros(tape, at, 4)
             },
-            Error::Block => {
+            Error::Pairs => {
                 let at = word(tape, at, 14);
                 zeros(tape, at, 4)
             },
-            Error::Pause => {
+            Error::Block => {
                 let at = word(tape, at, 15);
+                zeros(tape, at, 4)
+            },
+            Error::Pause => {
+                let at = word(tape, at, 16);
                 zeros(tape, at, 4)
             },
         }
@@ -137,6 +141,8 @@ impl Packed for Error {
         } else if kind == 13 {
             Error::KrAddress
         } else if kind == 14 {
+            Error::Pairs
+        } else if kind == 15 {
             Error::Block
         } else {
             Error::Pause
@@ -158,7 +164,7 @@ impl Packed for Family {
     ghost read = { get_family };
 
     #[tactic(auto, unfolding(crate::specs::Hardware::words_family, crate::specs::Hardware::get_family, crate::specs::Tape::word_at))]
-    fn put(self, tape: &mut [u32; 66], at: usize) -> usize {
+    fn put(self, tape: &mut [u32; 67], at: usize) -> usize {
         match self {
             Family::X552 => word(tape, at, 1),
             Family::X553 => word(tape, at, 2),
@@ -182,7 +188,7 @@ impl Packed for Action {
     ghost read = { get_action };
 
     #[tactic(auto, unfolding(crate::specs::Hardware::words_action, crate::specs::Hardware::get_action, crate::specs::Tape::word_at))]
-    fn put(self, tape: &mut [u32; 66], at: usize) -> usize {
+    fn put(self, tape: &mut [u32; 67], at: usize) -> usize {
         match self {
             Action::Read(x) => {
                 let at = word(tape, at, 1);

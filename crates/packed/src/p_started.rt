@@ -18,13 +18,13 @@ impl Packed for Step<Action, Op, Ended<Value>> {
     ghost read = { get_place };
 
     #[tactic(auto, using(crate::proofs::Laws::is_flag, crate::proofs::Laws::joined_back), unfolding(crate::specs::Started::words_place, crate::specs::Started::get_place, crate::specs::Tape::word_at))]
-    fn put(self, tape: &mut [u32; 66], at: usize) -> usize {
+    fn put(self, tape: &mut [u32; 67], at: usize) -> usize {
         match self {
             Step::Done(ended) => {
                 let at = word(tape, at, 1);
                 let at = long(tape, at, ended.words);
                 let at = ended.answer.put(tape, at);
-                zeros(tape, at, 41)
+                zeros(tape, at, 42)
             },
             Step::Ask(action, op) => {
                 let at = word(tape, at, 2);
@@ -66,9 +66,9 @@ impl Packed for Step<Action, Op, Ended<Value>> {
                             },
                             hold: HoldFor::get(tape, after(tape, at, 9)),
                         },
-                        place: AccessPlace::get(tape, after(tape, after(tape, at, 9), 7)),
+                        place: AccessPlace::get(tape, after(tape, after(tape, at, 9), 8)),
                     },
-                    after: After::get(tape, after(tape, after(tape, after(tape, at, 9), 7), 22)),
+                    after: After::get(tape, after(tape, after(tape, after(tape, at, 9), 8), 22)),
                 },
             )
         }

@@ -1,8 +1,10 @@
 -- mdio.rs
-use Rattle.std.specs.Prelude.{ℕ, ◌+◌, ◌-◌, ◌/◌, ◌^◌, Bool, true, false, not, ◌||◌, eqb, Option, None, Some}
+use Rattle.std.specs.Prelude.{ℕ, ◌+◌, ◌-◌, ◌/◌, ◌^◌, Bool, true, false, not, ◌||◌, eqb, Option, None, Some, List, [], ◌∷◌, ◌++◌}
 use Rattle.std.specs.Int.Bits.{bit_and, bit_or}
 use Rattle.hardware.specs.Bits.{inverse}
-use Rattle.hardware.specs.Talk.{Call, ◌>>=◌, ◌>>◌, times, pick, is_clear, read, read_raw, write, delay, return, fail}
+use Rattle.hardware.specs.Talk.{Talk, Res, Call, ◌>>=◌, ◌>>◌, times, pick, is_clear, read, read_raw, write, delay, return, fail}
+use Rattle.hardware.specs.Block.{Blk, keep}
+use Rattle.hardware.specs.Block as blk
 use Rattle.hardware.specs.declared.Error.TheVariants.{Timeout, PhyReset}
 use Rattle.hardware.specs.declared.Family.{Family}
 use Rattle.hardware.specs.declared.Family.TheVariants.{X552, X553}
@@ -49,6 +51,22 @@ read_body a =
 -- mdio.rs:40
 unfoldable pub read_reg : Port → ℕ → ℕ → ℕ → Call ℕ
 read_reg port phy dev reg = locked sync.plain port (mask port) (read_body (address phy dev reg))
+
+-- No function of the Rust: the body of a single read, once for each pair of device and register in order. `values`: those
+-- before it
+abbrev pub list_body : ℕ → List (ℕ × ℕ) → Blk (Unit {0})
+list_body phy [] values = blk.return tt values
+list_body phy ((dev, reg) ∷ rest) values =
+    blk.◌>>=◌ (keep (read_body (address phy dev reg))) (λ v values. list_body phy rest (values ++ v ∷ [])) values
+
+-- under read_reg's lock, once for all
+abbrev pub list_held : Port → ℕ → List (ℕ × ℕ) → Talk (Res (Unit {0}) × List ℕ)
+list_held port phy pairs = locked sync.with_values port (mask port) (list_body phy pairs [])
+
+-- an empty list takes nothing
+unfoldable pub mdio_list : Port → ℕ → List (ℕ × ℕ) → Talk (Res (Unit {0}) × List ℕ)
+mdio_list port phy [] = blk.return tt []
+mdio_list port phy (pair ∷ rest) = list_held port phy (pair ∷ rest)
 
 abbrev pub write_body : ℕ → ℕ → Call (Unit {0})
 write_body a value =

@@ -1,5 +1,5 @@
 -- sync.rs: the register semaphore, and the bits of SW_FW_SYNC. TOKEN is in Acquire.antt
-use Rattle.std.specs.Prelude.{ℕ, Bool, true, false, not, ◌&&◌, List, eqb, Ok, Err}
+use Rattle.std.specs.Prelude.{ℕ, Bool, true, false, not, ◌&&◌, List, [], eqb, Ok, Err}
 use Rattle.std.specs.Int.Bits.{bit_and, bit_or}
 use Rattle.hardware.specs.Bits.{without}
 use Rattle.hardware.specs.Talk.{Talk, Call, Res, end, and_then, ◌>>=◌, ◌>>◌, attempt, times, pick, is_clear, read, write, flush, delay, return, fail}
@@ -160,6 +160,15 @@ plain = record { before = Err; after = both }
 
 abbrev pub with_block : {A : Type 0} → List ℕ → Ending (Res A × List ℕ)
 with_block b = record { before = λ e. (Err e, b); after = λ p released. (both p.0 released, p.1) }
+
+-- a list of values: the body's error comes with those before it, the release's with none
+abbrev pub listed_after : {A : Type 0} → Res A × List ℕ → Res (Unit {0}) → Res A × List ℕ
+listed_after (Err e, values) released = (Err e, values)
+listed_after (Ok value, values) (Err e) = (Err e, [])
+listed_after (Ok value, values) (Ok _) = (Ok value, values)
+
+abbrev pub with_values : {A : Type 0} → Ending (Res A × List ℕ)
+with_values = record { before = λ e. (Err e, []); after = listed_after }
 
 abbrev pub held_given : {X : Type 0} → Ending X → X → Res (Unit {0}) → Talk X
 held_given ending x released = end (ending.after x released)

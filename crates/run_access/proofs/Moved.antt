@@ -1,5 +1,5 @@
 -- What goes on inside an access
-use Rattle.std.proofs.Common.{◌≡◌, sym, ap, subst, ◌∙◌}
+use Rattle.std.proofs.Common.{◌≡◌, refl, sym, ap, subst, ◌∙◌, take}
 use Rattle.hardware.specs.Talk.{Talk, Call, Res, Reply, end, ask}
 use Prim.Native.Nat.{ℕ}
 use mathlib.Core.List.{List, []}
@@ -8,15 +8,18 @@ use Rattle.drive.proofs.Laws.{from_as, moved, inside, told_as}
 use Rattle.hardware.specs.declared.Action.{Action}
 use Rattle.hardware.specs.declared.Step.{Step}
 use Rattle.hardware.specs.declared.Step.TheVariants as step
-use Rattle.reference.specs.Sync.{plain, held_done}
-use Rattle.sync.specs.Sync.{resume_sync, told_sync}
+use Rattle.reference.specs.Sync.{with_values, held_done}
+use Rattle.hardware.specs.Told.{told_by}
+use Rattle.hostif.specs.Exchange.{told_exchange}
+use Rattle.hostif.specs.declared.exchange.Exchange.{Exchange}
+use Rattle.sync.specs.Sync.{give_bits, resume_sync, told_sync}
 use Rattle.sync.specs.declared.sync.Sync.{Sync}
 use Rattle.sync.specs.declared.sync.SyncCall.{SyncCall}
-use Rattle.access.specs.Frame.{release_by}
-use Rattle.access.specs.Access.{sync_call, sync_then, body_then, exchange_then, resume_place}
-use Rattle.access.proofs.Asks.{sync_ask, sync_end, exchange_ask, exchange_end}
-use Rattle.access.specs.declared.frame.Frame.{Frame}
+use Rattle.access.specs.Frame.{command_bits, release_by}
+use Rattle.access.specs.Access.{sync_call, sync_then, body_got, body_then, beside, exchange_then, command_then, command_synced, resume_command, resume_place, rest_of, words_of}
+use Rattle.access.proofs.Asks.{sync_ask, sync_end}
 use Rattle.access.specs.declared.place.CommandFor.{CommandFor}
+use Rattle.access.specs.declared.place.CommandPlace.TheVariants as command
 use Rattle.access.specs.declared.place.AccessPlace.TheVariants as place
 use Rattle.access.specs.declared.place.SyncFor.{SyncFor}
 use Rattle.access.specs.declared.place.Under.{Under}
@@ -36,11 +39,18 @@ sync_moves {rs} {v} {w} {a} under why b s next is q =
     (subst (λ (c : SyncCall). Moves rs (told_sync c (step.Ask a s)) v (told_sync c next) w) (sym is) q)
 
 -- the body that goes on
-pub body_moves : {rs : List ℕ} {v w : Tape} (f : Frame) {t u : Call ℕ} → Moves rs t v u w → Moves rs (body_then f t) v (body_then f u) w
-body_moves f q = inside (λ r. end (r, [])) (inside (held_done plain (release_by f)) q)
+pub body_moves : {rs : List ℕ} {v w : Tape} (u : Under) (ws : List ℕ) {t t' : Call ℕ} → Moves rs t v t' w → Moves rs (body_then u ws t) v (body_then u ws t') w
+body_moves u ws q = inside (held_done with_values (release_by u.frame)) (inside (body_got u.hold ws) q)
 
 -- the exchange that goes on
-pub exchange_moves : {rs : List ℕ} {v w : Tape} {a : Action} (under : Under) (whose : CommandFor) (k : Reply → Talk (Res ℕ × List ℕ)) {u : Talk (Res ℕ × List ℕ)}
-    → Moves rs (ask a k) v u w → Moves rs (ask a (λ r. exchange_then under whose (k r))) v (exchange_then under whose u) w
-exchange_moves {a = a} under whose k {u} q =
-    moved (λ p. exchange_then under whose (end p)) (sym (exchange_ask under whose a k) ∙ exchange_end under whose (ask a k)) (exchange_end under whose u) q
+pub exchange_moves : {rs : List ℕ} {v w : Tape} (under : Under) (whose : CommandFor) {t u : Talk ((Res ℕ × List ℕ) × List ℕ)}
+    → Moves rs t v u w → Moves rs (exchange_then under whose t) v (exchange_then under whose u) w
+exchange_moves under whose q =
+    inside (λ q. command_then under q.1 whose (command_synced under.frame (command.Releasing q.0.0) (give_bits (command_bits under.frame)) q.0.1)) q
+
+-- what the exchange's end and its list's words make of a step
+pub exchange_told : (whose : CommandFor) (b : List ℕ) (next : Step Action Exchange (Res ℕ))
+    → told_by (λ (status : Res ℕ). ((status, take (words_of whose) b), rest_of whose b)) (λ s r. resume_command whose s b r) next
+    ≡ beside (rest_of whose b) (told_exchange (take (words_of whose) b) next)
+exchange_told whose b (step.Ask a s) = refl
+exchange_told whose b (step.Done status) = refl

@@ -1,7 +1,6 @@
 // The host exchange over a script: an action at a time, in the words that are the command's.
 ghost use Rattle.std.specs.Prelude.{take};
-ghost use Rattle.hostif.specs.Exchange.{resume_exchange};
-ghost use Rattle.access.specs.Access.{words_of};
+ghost use Rattle.access.specs.Access.{rest_of, resume_command, words_of};
 
 use crate::lent::{Lent, Runs, single};
 use access::place::CommandFor;
@@ -16,17 +15,17 @@ impl Lent for Exchange {
     // the status
     type Answer = Result<u32, Error>;
 
-    // the status, and those words
-    type End = (Result<u32, Error>, [u32; 16]);
+    // the status, and those words; the list's, as they were
+    type End = ((Result<u32, Error>, [u32; 80]), [u32; 80]);
 
-    ghost resume = { λ c s b r. resume_exchange s (take (words_of c) b) r };
+    ghost resume = { λ c s b r. resume_command c s b r };
 
-    ghost end = { λ c b status. (status, take (words_of c) b) };
+    ghost end = { λ c b status. ((status, take (words_of c) b), rest_of c b) };
 
     fn next(
         self,
         whose: CommandFor,
-        block: &mut [u32; 16],
+        block: &mut [u32; 80],
         reply: Reply,
     ) -> Step<Action, Exchange, Result<u32, Error>> {
         whose.next(self, block, reply)
@@ -38,7 +37,7 @@ impl Runs for Exchange {
         self,
         a: Action,
         whose: CommandFor,
-        block: &mut [u32; 16],
+        block: &mut [u32; 80],
         h: &mut Host,
         replies: &[u32],
         t: &mut [u32],

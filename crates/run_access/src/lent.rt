@@ -26,7 +26,7 @@ pub trait Lent: Copy {
     fn next(
         self,
         context: Self::Context,
-        block: &mut [u32; 16],
+        block: &mut [u32; 80],
         reply: Reply,
     ) -> Step<Action, Self, Self::Answer>
         ensures { told_by (end context block.new) (λ s r. resume context s block.new r) result ≡ resume context self block.old reply };
@@ -38,7 +38,7 @@ pub fn single<M: Lent>(
     s: M,
     a: Action,
     context: M::Context,
-    block: &mut [u32; 16],
+    block: &mut [u32; 80],
     h: &mut Host,
     replies: &[u32],
     t: &mut [u32],
@@ -58,7 +58,7 @@ pub trait Runs: Lent {
         self,
         a: Action,
         context: Self::Context,
-        block: &mut [u32; 16],
+        block: &mut [u32; 80],
         h: &mut Host,
         replies: &[u32],
         t: &mut [u32],
@@ -72,7 +72,7 @@ pub fn run<M: Runs>(
     from: M,
     first: Action,
     context: M::Context,
-    block: &mut [u32; 16],
+    block: &mut [u32; 80],
     h: &mut Host,
     replies: &[u32],
     t: &mut [u32],

@@ -16,7 +16,7 @@ impl Lent for Access {
     type Answer = Ended<u32>;
 
     // the word, and the words of the block that belong to it
-    type End = (Result<u32, Error>, [u32; 16]);
+    type End = (Result<u32, Error>, [u32; 80]);
 
     ghost resume = { λ c s b r. resume_access s b r };
 
@@ -25,7 +25,7 @@ impl Lent for Access {
     fn next(
         self,
         context: (),
-        block: &mut [u32; 16],
+        block: &mut [u32; 80],
         reply: Reply,
     ) -> Step<Action, Access, Ended<u32>> {
         Access::next(self, block, reply)
@@ -38,7 +38,7 @@ impl Runs for Access {
         self,
         a: Action,
         context: (),
-        block: &mut [u32; 16],
+        block: &mut [u32; 80],
         h: &mut Host,
         replies: &[u32],
         t: &mut [u32],

@@ -22,7 +22,7 @@ impl Nvm {
     // two bytes, as the firmware has them
     pub const LENGTH: u32 = 0x200;
 
-    fn put(word: u16, block: &mut [u32; 16])
+    fn put(word: u16, block: &mut [u32; 80])
         ensures { take 4 block.new ≡ nvm_block word }
     {
         block[..4].copy_from_slice(&[Nvm::HEADER, nvm_address(word), Nvm::LENGTH, 0]);
@@ -40,7 +40,7 @@ impl Nvm {
         }
     }
 
-    pub fn start(word: u16, block: &mut [u32; 16]) -> Step<Action, Nvm, Result<u32, Error>>
+    pub fn start(word: u16, block: &mut [u32; 80]) -> Step<Action, Nvm, Result<u32, Error>>
         ensures { told_nvm block.new result ≡ nvm_body word }
     {
         Nvm::put(word, block);

@@ -1,8 +1,9 @@
 // How each operation begins.
 ghost use Rattle.std.specs.Prelude.{◌≡◌, ℕ, List, [], length, take};
 ghost use Rattle.after.specs.After.{told_after};
-ghost use Rattle.start.specs.First.{told_first};
-ghost use Rattle.operations.specs.Operations.{operation};
+ghost use Rattle.jobs.specs.List.{list_of, pairs_in};
+ghost use Rattle.start.specs.First.{begins, told_first};
+ghost use Rattle.operations.specs.Operations.{list_operation, operation};
 ghost use Rattle.operations.specs.declared.Operation.TheVariants as ops;
 
 use access::place::Access;
@@ -34,22 +35,22 @@ pub enum First {
     After(Step<Job, After, Ended<Value>>),
 }
 
-// How many words the first so many of a block of 16 are.
+// How many words the first so many of a block of 80 are.
 fn count(block: &[u32], words: usize) -> u32
-    requires { length block.now ≡ 16 }
+    requires { length block.now ≡ 80 }
     ensures { length (take words block.now) ≡ result }
 {
-    if words < 16 { words as u32 } else { 16 }
+    if words < 80 { words as u32 } else { 80 }
 }
 
-fn command(port: Port, block: &mut [u32; 16], words: usize) -> Step<Job, After, Ended<Value>>
+fn command(port: Port, block: &mut [u32; 80], words: usize) -> Step<Job, After, Ended<Value>>
     ensures { told_after port block.new result ≡ operation port ops.Command (take words block.old) }
 {
     let n = count(block, words);
     Step::Ask(Job::Command(words), After::Command(n))
 }
 
-fn token(port: Port, take: bool, block: &mut [u32; 16]) -> Step<Job, After, Ended<Value>>
+fn token(port: Port, take: bool, block: &mut [u32; 80]) -> Step<Job, After, Ended<Value>>
     ensures { told_after port block.new result ≡ operation port (ops.Token take) [] }
 {
     let token = Token { take };
@@ -58,7 +59,7 @@ fn token(port: Port, take: bool, block: &mut [u32; 16]) -> Step<Job, After, Ende
 }
 
 #[tactic(auto, using(hardware::proofs::Laws::then_assoc))]
-fn phy_activity(port: Port, asked: Asked, block: &mut [u32; 16]) -> Step<Job, After, Ended<Value>>
+fn phy_activity(port: Port, asked: Asked, block: &mut [u32; 80]) -> Step<Job, After, Ended<Value>>
     ensures { told_after port block.new result ≡ operation port (ops.PhyActivity asked) [] }
 {
     let step = Activity::start(asked, port, block);
@@ -70,6 +71,18 @@ fn read_reg(port: Port, phy: u32, device: u32, register: u16) -> Step<Job, After
     ensures { (b : List ℕ) → told_after port b result ≡ operation port (ops.ReadReg phy device register) [] }
 {
     Step::Ask(Job::ReadReg(phy, device, register), After::Word)
+}
+
+// An empty list takes nothing.
+fn mdio_list(port: Port, phy: u32, pairs: usize) -> Step<Job, After, Ended<Value>>
+    ensures { (b : List ℕ) → length b ≡ 80 → told_after port b result ≡ list_operation port phy (pairs_in (take pairs (list_of b))) }
+{
+    let n = usize::min(pairs, 64);
+    if n == 0 {
+        After::plain(Ok(Value::List(0)))
+    } else {
+        Step::Ask(Job::ReadList(phy, n as u8), After::List(n as u32))
+    }
 }
 
 fn write_reg(
@@ -191,7 +204,7 @@ fn after_reset(port: Port) -> Step<Job, After, Ended<Value>>
 }
 
 #[tactic(auto, using(hardware::proofs::Laws::then_assoc))]
-fn bringup(port: Port, veto: bool, block: &mut [u32; 16]) -> Step<Job, After, Ended<Value>>
+fn bringup(port: Port, veto: bool, block: &mut [u32; 80]) -> Step<Job, After, Ended<Value>>
     ensures { told_after port block.new result ≡ operation port (ops.Bringup veto) [] }
 {
     let managed = Managed { port, veto };
@@ -206,10 +219,16 @@ fn poll(port: Port, watch: Watch) -> Step<Job, After, Ended<Value>>
     After::poll(port, watch, step)
 }
 
-// `words`: how many of the block are the host's.
-#[tactic(auto, using(hardware::proofs::Laws::then_assoc, after::proofs::Laws::nothing_begun))]
-pub fn start(what: Operation, port: Port, block: &mut [u32; 16], words: usize) -> First
-    ensures { told_first port block.new result ≡ operation port what (take words block.old) }
+// `words`: how many of the block are a command's, the first; `pairs`: how many a list has, behind them.
+#[tactic(auto, using(hardware::proofs::Laws::then_assoc, after::proofs::Laws::nothing_begun), unfolding(crate::specs::First::begins))]
+pub fn start(
+    what: Operation,
+    port: Port,
+    block: &mut [u32; 80],
+    words: usize,
+    pairs: usize,
+) -> First
+    ensures { told_first port block.new result ≡ begins port what words pairs block.old }
 {
     match what {
         Operation::Veto => First::After(Step::Ask(Job::Read(Port::MMNGC), After::Veto)),
@@ -220,6 +239,7 @@ pub fn start(what: Operation, port: Port, block: &mut [u32; 16], words: usize) -
         Operation::Token(take) => First::After(token(port, take, block)),
         Operation::PhyActivity(asked) => First::After(phy_activity(port, asked, block)),
         Operation::ReadReg(phy, dev, reg) => First::After(read_reg(port, phy, dev, reg)),
+        Operation::MdioList(phy) => First::After(mdio_list(port, phy, pairs)),
         Operation::WriteReg(phy, dev, reg, v) => First::After(write_reg(port, phy, dev, reg, v)),
         Operation::Modify(at) => First::After(modify(port, at)),
         Operation::Probe(phy) => First::After(probe(port, phy)),

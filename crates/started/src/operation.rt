@@ -26,7 +26,7 @@ impl Op {
     #[tactic(auto, using(hardware::proofs::Laws::then_assoc))]
     pub fn begun(
         port: Port,
-        block: &mut [u32; 16],
+        block: &mut [u32; 80],
         job: Job,
         after: After,
     ) -> Step<Action, Op, Ended<Value>>
@@ -40,7 +40,7 @@ impl Op {
     #[tactic(auto, using(hardware::proofs::Laws::then_assoc))]
     pub fn decided(
         port: Port,
-        block: &mut [u32; 16],
+        block: &mut [u32; 80],
         step: Step<Job, After, Ended<Value>>,
     ) -> Step<Action, Op, Ended<Value>>
         ensures { told port result block.new ≡ told_after port block.old step }
@@ -55,7 +55,7 @@ impl Op {
     pub fn stepped(
         port: Port,
         after: After,
-        block: &mut [u32; 16],
+        block: &mut [u32; 80],
         step: Step<Action, Access, Ended<u32>>,
     ) -> Step<Action, Op, Ended<Value>>
         ensures { told port result block.new ≡ and_then (told_access block.old step) (λ p. resume_after port after p.0 p.1) }
@@ -76,7 +76,7 @@ impl Lent for Op {
     type Answer = Ended<Value>;
 
     // the answer, and the words of the block that belong to it
-    type End = (Result<Value, Error>, [u32; 16]);
+    type End = (Result<Value, Error>, [u32; 80]);
 
     ghost resume = { λ port s b r. resume_op port s r b };
 
@@ -85,7 +85,7 @@ impl Lent for Op {
     fn next(
         self,
         port: Port,
-        block: &mut [u32; 16],
+        block: &mut [u32; 80],
         reply: Reply,
     ) -> Step<Action, Op, Ended<Value>> {
         let step = self.access.next(block, reply);
@@ -99,7 +99,7 @@ impl Runs for Op {
         self,
         a: Action,
         port: Port,
-        block: &mut [u32; 16],
+        block: &mut [u32; 80],
         h: &mut Host,
         replies: &[u32],
         t: &mut [u32],

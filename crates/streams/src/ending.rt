@@ -28,7 +28,7 @@ pub fn stop<W: Write>(
 // The last line of a conversation that has ended.
 pub fn last<W: Write>(
     answer: Result<Value, Error>,
-    block: [u32; 16],
+    block: [u32; 80],
     actions: u64,
     micros: u64,
     sink: &mut W,
@@ -43,7 +43,7 @@ pub fn last<W: Write>(
 
 // The host block that a `command` leaves.
 pub fn print_left<W: Write>(
-    host: [u32; 16],
+    host: [u32; 80],
     words: u32,
     sink: &mut W,
     waiting: &mut Waiting,

@@ -51,10 +51,10 @@ module _ {line : List (List ℕ)} {w : List ℕ} {ws : List (List ℕ)} (e : lin
   pub not_read : arguments_of ws ≡ None → operation_of line ≡ None
   not_read h = rw (e, said_bad (all_numbers ws) (length ws) h)
 
-  pub are_read : (old : List ℕ) {n : ℕ} {r : Line} → arguments_of ws ≡ Some n → length old ≡ 17
+  pub are_read : (old : List ℕ) {n : ℕ} {r : Line} → arguments_of ws ≡ Some n → length old ≡ 7282
       → by_name w (take n (sets old 0 (numbers ws))) ≡ r → operation_of line ≡ r
   are_read old {n} h long g =
       let s = said_are (all_numbers ws) (length ws) h in
       let count : length (numbers ws) ≡ n = all_counted ws s.0 ∙ s.1 in
-      let same : take n (sets old 0 (numbers ws)) ≡ take 17 (numbers ws) = rw (← count, front old (numbers ws), long) in
+      let same : take n (sets old 0 (numbers ws)) ≡ take 7282 (numbers ws) = rw (← count, front old (numbers ws), long) in
       rw (e, s.0, ← same) g

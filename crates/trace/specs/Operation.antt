@@ -1,10 +1,10 @@
 -- The operation line: a name, then argument words
-use Rattle.std.specs.Prelude.{ℕ, List, [], ◌∷◌, length, take, Some, None}
+use Rattle.std.specs.Prelude.{ℕ, List, [], ◌∷◌, length, take, drop, Some, None}
 use Rattle.hardware.specs.Talk.{pick}
 use Rattle.text.specs.Same.{same}
 use Rattle.arguments.specs.declared.Asked.{Asked}
 use Rattle.operations.specs.declared.Operation.{Operation}
-use Rattle.operations.specs.declared.Operation.TheVariants.{Veto, Link, Acquire, Release, Command, Token, PhyActivity}
+use Rattle.operations.specs.declared.Operation.TheVariants.{Veto, Link, Acquire, Release, Command, Token, PhyActivity, MdioList}
 use Rattle.trace.specs.Arguments.{numbers, all_numbers}
 use Rattle.trace.specs.Kinds.{Line, no_more, with_word, with_half, with_truth}
 use Rattle.trace.specs.Mdio.{mdio_name}
@@ -37,7 +37,12 @@ by_name w vs =
     (pick (same w (114 ∷ 101 ∷ 108 ∷ 101 ∷ 97 ∷ 115 ∷ 101 ∷ [])) (with_word (λ mask. no_more (Release mask)) vs)
     (hostif_name w vs))))
 
--- a name, then numbers alone. No operation takes more than sixteen, so what follows the seventeenth changes nothing
+-- the words of the arguments that are lent to `begin`: a list's stand behind its PHY, a command's are the first
+unfoldable pub lent_words : Operation → ℕ → List ℕ → List ℕ
+lent_words (MdioList phy) n args = take n (drop 1 args)
+lent_words what n args = take n args
+
+-- a name, then numbers alone. No line that fits the input buffer has more than 7282
 abbrev pub operation_of : List (List ℕ) → Line
 operation_of [] = None
-operation_of (w ∷ ws) = pick (all_numbers ws) (by_name w (take 17 (numbers ws))) None
+operation_of (w ∷ ws) = pick (all_numbers ws) (by_name w (take 7282 (numbers ws))) None

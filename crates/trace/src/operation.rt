@@ -5,7 +5,7 @@ ghost use Rattle.text.specs.Words.{words};
 ghost use Rattle.operations.specs.declared.Operation.TheVariants as operation;
 ghost use Rattle.trace.specs.Arguments.{numbers};
 ghost use Rattle.trace.specs.Kinds.{no_more, with_word, with_truth};
-ghost use Rattle.trace.specs.Operation.{with_block, with_activity, hostif_name, by_name, operation_of};
+ghost use Rattle.trace.specs.Operation.{with_block, with_activity, hostif_name, by_name, lent_words, operation_of};
 
 use crate::argument_words::read;
 use crate::kinds::{half, is_name, no_more, truth, word};
@@ -98,10 +98,22 @@ fn named_from(name: &[u8], buffer: &[u32], n: usize) -> Option<(Operation, usize
     named(name, buffer.get(..n).unwrap_or(buffer))
 }
 
-// The argument words are left in the buffer. It has a place more than a host block may have words, so that a block that
-// is too long is seen to be.
+// The words of them that are lent to `begin`: a list's stand behind its PHY, a command's are the first.
+#[tactic(auto, unfolding(crate::specs::Operation::lent_words))]
+pub fn lent(what: Operation, args: &[u32], words: usize) -> &[u32]
+    ensures { lent_words what words args.now ≡ result.now }
+{
+    let from = match what {
+        Operation::MdioList(_) => args.get(1..).unwrap_or(args),
+        _ => args,
+    };
+    from.get(..words).unwrap_or(from)
+}
+
+// The argument words are left in the buffer. It has as many places as a line in the input buffer may have words, so that a
+// list that is too long is seen to be, and each of its devices is looked at.
 #[tactic(auto, using(text::proofs::PartLaws::part_slice, lines::proofs::Laws::place, crate::proofs::OperationLaws::kept, crate::proofs::OperationLaws::not_read, crate::proofs::OperationLaws::are_read))]
-pub fn operation_line(line: &[u8], args: &mut [u32; 17]) -> Option<(Operation, usize)>
+pub fn operation_line(line: &[u8], args: &mut [u32; 7282]) -> Option<(Operation, usize)>
     ensures line_value { operation_of (words line.now) ≡ result }
     ensures args_after { args.new ≡ sets args.old 0 (numbers (drop 1 (words line.now))) }
 {

@@ -1,7 +1,7 @@
 // The operation lines of mdio.rs.
 ghost use Rattle.std.specs.Prelude.{◌≡◌};
 ghost use Rattle.operations.specs.declared.Operation.TheVariants as operation;
-ghost use Rattle.trace.specs.Mdio.{with_read_reg, with_write_reg, with_modify, with_phy, with_reset, with_advertise, phy_name, mdio_name};
+ghost use Rattle.trace.specs.Mdio.{are_pairs, with_read_reg, with_list, with_write_reg, with_modify, with_phy, with_reset, with_advertise, phy_name, mdio_name};
 
 use crate::kinds::{half, is_name, maybe, no_more, truth, word};
 use crate::kr_registers::kr_named;
@@ -16,6 +16,30 @@ fn read_reg(args: &[u32]) -> Option<(Operation, usize)>
     let (device, args) = word(args)?;
     let (register, args) = half(args)?;
     no_more(Operation::ReadReg(phy, device, register), args)
+}
+
+// Device and register in turn; a register of more than 16 bits is none.
+#[tactic(auto, using(crate::proofs::PairLaws::pairs_short, crate::proofs::PairLaws::pairs_far, crate::proofs::PairLaws::pairs_then))]
+fn are_pairs(args: &[u32]) -> bool
+    ensures { are_pairs args.now ≡ result }
+{
+    for pair in args.chunks(2) {
+        if pair.len() < 2 || pair[1] > 0xffff {
+            return false;
+        }
+    }
+    true
+}
+
+// The pairs are the words that are lent.
+fn mdio_list(args: &[u32]) -> Option<(Operation, usize)>
+    ensures { with_list args.now ≡ result }
+{
+    let (phy, args) = word(args)?;
+    if !are_pairs(args) {
+        return None;
+    }
+    Some((Operation::MdioList(phy), args.len()))
 }
 
 fn write_reg(args: &[u32]) -> Option<(Operation, usize)>
@@ -118,6 +142,9 @@ pub fn mdio_named(name: &[u8], args: &[u32]) -> Option<(Operation, usize)>
 {
     if is_name(name, b"read_reg") {
         return read_reg(args);
+    }
+    if is_name(name, b"mdio_list") {
+        return mdio_list(args);
     }
     if is_name(name, b"write_reg") {
         return write_reg(args);

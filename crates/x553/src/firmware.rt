@@ -84,7 +84,7 @@ impl SetupFirmware {
         port: Port,
         phy: FirmwarePhy,
         internal: Option<u32>,
-        block: &mut [u32; 16],
+        block: &mut [u32; 80],
     ) -> Step<Job, SetupFirmware, Result<FirmwareSetup, Error>>
         ensures { told_firmware port block.new result ≡ firmware_down port phy internal }
     {
@@ -96,7 +96,7 @@ impl SetupFirmware {
         port: Port,
         phy: FirmwarePhy,
         flx: u32,
-        block: &mut [u32; 16],
+        block: &mut [u32; 80],
         out: Words,
     ) -> Step<Job, SetupFirmware, Result<FirmwareSetup, Error>>
         ensures { told_firmware port block.new result ≡ info_done port phy flx out }
@@ -113,7 +113,7 @@ impl SetupFirmware {
         port: Port,
         phy: FirmwarePhy,
         flx: u32,
-        block: &mut [u32; 16],
+        block: &mut [u32; 80],
         step: Step<Job, Activity, Result<Words, Error>>,
     ) -> Step<Job, SetupFirmware, Result<FirmwareSetup, Error>>
         ensures { told_firmware port block.new result ≡ info_then port phy flx (told_activity port link_info_of block.old step) }
@@ -130,7 +130,7 @@ impl SetupFirmware {
         port: Port,
         phy: FirmwarePhy,
         flx: u32,
-        block: &mut [u32; 16],
+        block: &mut [u32; 80],
         out: Words,
     ) -> Step<Job, SetupFirmware, Result<FirmwareSetup, Error>>
         ensures { told_firmware port block.new result ≡ link_done port phy flx out }
@@ -147,7 +147,7 @@ impl SetupFirmware {
         port: Port,
         phy: FirmwarePhy,
         flx: u32,
-        block: &mut [u32; 16],
+        block: &mut [u32; 80],
         step: Step<Job, Activity, Result<Words, Error>>,
     ) -> Step<Job, SetupFirmware, Result<FirmwareSetup, Error>>
         ensures { told_firmware port block.new result ≡ link_then port phy flx (told_activity port (link_of phy) block.old step) }
@@ -163,7 +163,7 @@ impl SetupFirmware {
     fn after_internal(
         port: Port,
         phy: FirmwarePhy,
-        block: &mut [u32; 16],
+        block: &mut [u32; 80],
         step: Step<Job, SgmiiAn, Result<u32, Error>>,
     ) -> Step<Job, SetupFirmware, Result<FirmwareSetup, Error>>
         ensures { told_firmware port block.new result ≡ internal_then port phy (told_sgmii_an port block.old step) }
@@ -185,7 +185,7 @@ impl SetupFirmware {
         port: Port,
         phy: FirmwarePhy,
         down: bool,
-        block: &mut [u32; 16],
+        block: &mut [u32; 80],
     ) -> Step<Job, SetupFirmware, Result<FirmwareSetup, Error>>
         ensures { told_firmware port block.new result ≡ setup_firmware port.pause port phy down }
     {
@@ -200,7 +200,7 @@ impl SetupFirmware {
         port: Port,
         phy: FirmwarePhy,
         down: bool,
-        block: &mut [u32; 16],
+        block: &mut [u32; 80],
         got: Result<u32, Error>,
     ) -> Step<Job, SetupFirmware, Result<FirmwareSetup, Error>>
         ensures { told_firmware port block.new result ≡ got_mmngc port phy down got }
@@ -237,7 +237,7 @@ impl SetupFirmware {
     pub fn next(
         self,
         port: Port,
-        block: &mut [u32; 16],
+        block: &mut [u32; 80],
         given: Ended<u32>,
     ) -> Step<Job, SetupFirmware, Result<FirmwareSetup, Error>>
         ensures { told_firmware port block.new result ≡ resume_firmware port self given.answer (take given.words block.old) }

@@ -47,7 +47,7 @@ pub fn asked(activity: u16, word: u32) -> Asked
 }
 
 // The same, at its first job.
-pub fn begin(activity: u16, word: u32, port: Port, block: &mut [u32; 16]) -> Activity
+pub fn begin(activity: u16, word: u32, port: Port, block: &mut [u32; 80]) -> Activity
     ensures { begun_with port activity word block.new result ≡ phy_activity port activity word 0 0 0 }
 {
     Activity::first(asked(activity, word), port, block)
@@ -98,7 +98,7 @@ impl PrepareFirmware {
         place: FirmwarePlace,
         phy: FirmwarePhy,
         managed: Managed,
-        block: &mut [u32; 16],
+        block: &mut [u32; 80],
     ) -> Step<Job, PrepareFirmware, Result<FirmwarePrepared, Error>>
         ensures { told_prepare managed block.new result ≡ place_at managed.port place phy }
     {
@@ -110,7 +110,7 @@ impl PrepareFirmware {
         place: FirmwarePlace,
         phy: FirmwarePhy,
         managed: Managed,
-        block: &mut [u32; 16],
+        block: &mut [u32; 80],
         out: Words,
     ) -> Step<Job, PrepareFirmware, Result<FirmwarePrepared, Error>>
         ensures { told_prepare managed block.new result ≡ place_done managed.port place phy out }
@@ -141,7 +141,7 @@ impl PrepareFirmware {
         place: FirmwarePlace,
         phy: FirmwarePhy,
         managed: Managed,
-        block: &mut [u32; 16],
+        block: &mut [u32; 80],
         step: Step<Job, Activity, Result<Words, Error>>,
     ) -> Step<Job, PrepareFirmware, Result<FirmwarePrepared, Error>>
         ensures { told_prepare managed block.new result ≡ place_then managed.port place phy (told_activity managed.port (asked_of place phy) block.old step) }
@@ -156,7 +156,7 @@ impl PrepareFirmware {
     // No PHY has an id of 0 or 0xfffffff0.
     fn info(
         managed: Managed,
-        block: &mut [u32; 16],
+        block: &mut [u32; 80],
         out: Words,
     ) -> Step<Job, PrepareFirmware, Result<FirmwarePrepared, Error>>
         ensures { told_prepare managed block.new result ≡ prepare_info managed.port managed.veto (phy_info out) }
@@ -181,7 +181,7 @@ impl PrepareFirmware {
     #[tactic(auto, using(hardware::proofs::Laws::then_assoc))]
     fn after_info(
         managed: Managed,
-        block: &mut [u32; 16],
+        block: &mut [u32; 80],
         step: Step<Job, Activity, Result<Words, Error>>,
     ) -> Step<Job, PrepareFirmware, Result<FirmwarePrepared, Error>>
         ensures { told_prepare managed block.new result ≡ info_then managed (told_activity managed.port info_of block.old step) }
@@ -196,7 +196,7 @@ impl PrepareFirmware {
     #[tactic(auto, using(hardware::proofs::Laws::then_assoc), unfolding(reference::specs::X553::prepare_firmware))]
     pub fn start(
         managed: Managed,
-        block: &mut [u32; 16],
+        block: &mut [u32; 80],
     ) -> Step<Job, PrepareFirmware, Result<FirmwarePrepared, Error>>
         ensures { told_prepare managed block.new result ≡ prepare_firmware managed.port managed.veto }
     {
@@ -208,7 +208,7 @@ impl PrepareFirmware {
     pub fn next(
         self,
         managed: Managed,
-        block: &mut [u32; 16],
+        block: &mut [u32; 80],
         given: Ended<u32>,
     ) -> Step<Job, PrepareFirmware, Result<FirmwarePrepared, Error>>
         ensures { told_prepare managed block.new result ≡ resume_prepare managed self given.answer (take given.words block.old) }

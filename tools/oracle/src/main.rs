@@ -13,6 +13,7 @@
 //! - Fiber goes by family and device id together: X552 with 15c4 is not fiber.
 //! - Lines behind the end are not read. The exit status is 0.
 mod answers;
+mod body;
 mod lines;
 mod operations;
 mod talk;
@@ -25,8 +26,8 @@ use lines::PortLine;
 use operations::Operation;
 use talk::Talk;
 
-/// The number of the refusal, 20 to 23 and 32 in this order, where the port or the operation is refused before any action. The port's
-/// 35, a KR address above ffff, is not there: the Rust sends such an address, and runs beside it leave it out.
+/// The number of the refusal, 20, 21, 22, 31, 23 and 32 in this order, where the port or the operation is refused before any action. The
+/// port's 35, a KR address above ffff, is not there: the Rust sends such an address, and runs beside it leave it out.
 fn refusal(port: &PortLine, operation: &Operation) -> Option<u32> {
     let is_fiber = match port.family {
         Family::X553 => [0x15c4, 0x15ce].contains(&port.device),
@@ -36,6 +37,7 @@ fn refusal(port: &PortLine, operation: &Operation) -> Option<u32> {
         (20, port.lan > 1),
         (21, is_fiber),
         (22, operation.addresses.iter().any(|address| *address > 31)),
+        (31, operation.pairs > 64),
         (23, operation.block > 16),
         (32, port.pause == 0 || port.pause > 100),
     ];

@@ -6,6 +6,7 @@
 use crate::answers::Words;
 use crate::hw::{self, hostif, mdio, sync, x552, x553, Error, Family, Port};
 use crate::lines::{self, Arguments};
+use crate::body::{Body, BODY};
 use crate::talk::Talk;
 
 /// What came of an operation, and what it leaves to its caller beside that: the words of a host block, or of a watch.
@@ -15,8 +16,10 @@ pub struct Done {
 }
 
 pub struct Operation {
-    /// Of the PHY and of the device in it; 0 where it has none.
-    pub addresses: [u32; 2],
+    /// Of the PHY and of the devices in it.
+    pub addresses: Vec<u32>,
+    /// The pairs of its list.
+    pub pairs: usize,
     /// The words of its host block.
     pub block: usize,
     pub run: Box<dyn FnOnce(&mut Talk, Port) -> Done>,
@@ -24,18 +27,18 @@ pub struct Operation {
 
 impl Operation {
     fn addressed(self, phy: u32, device: u32) -> Operation {
-        Operation { addresses: [phy, device], ..self }
+        Operation { addresses: vec![phy, device], ..self }
     }
 }
 
 /// An operation that leaves nothing beside its answer.
 fn does<T: Words>(run: impl FnOnce(&mut Talk, Port) -> Result<T, Error<u32>> + 'static) -> Operation {
     let run = |talk: &mut Talk, port| Done { answer: run(talk, port).map(|answer| answer.words()), left: None };
-    Operation { addresses: [0, 0], block: 0, run: Box::new(run) }
+    Operation { addresses: vec![], pairs: 0, block: 0, run: Box::new(run) }
 }
 
 type Group = fn(&[u8], &mut Arguments) -> Option<Operation>;
-const GROUPS: [Group; 6] = [of_port, of_locks, of_firmware, of_phy, of_phy_register, of_kr];
+const GROUPS: [Group; 7] = [of_port, of_locks, of_firmware, of_phy, of_list, of_phy_register, of_kr];
 
 /// The operation of the second line.
 pub fn read(line: &[u8]) -> Option<Operation> {
@@ -87,7 +90,7 @@ fn poll(phy: u32, internal: x552::Internal, forced: Option<u16>, reforced: u32) 
         let left = (watch.forced, watch.reforced).words();
         Done { answer: copper.map(|copper| [copper.words(), left.clone()].concat()), left: Some(left) }
     };
-    Operation { addresses: [phy, 0], block: 0, run: Box::new(run) }
+    Operation { addresses: vec![phy], pairs: 0, block: 0, run: Box::new(run) }
 }
 
 fn of_locks(name: &[u8], a: &mut Arguments) -> Option<Operation> {
@@ -124,7 +127,7 @@ fn command(mut block: Vec<u32>) -> Operation {
         let status = hostif::command(talk, port, &mut block);
         Done { answer: status.map(|status| [status.words(), block.clone()].concat()), left: Some(block) }
     };
-    Operation { addresses: [0, 0], block: length, run: Box::new(run) }
+    Operation { addresses: vec![], pairs: 0, block: length, run: Box::new(run) }
 }
 
 /// What is done with a PHY, or to find one.
@@ -148,6 +151,30 @@ fn of_phy(name: &[u8], a: &mut Arguments) -> Option<Operation> {
         _ => return None,
     };
     Some(operation.addressed(address, 0))
+}
+
+/// Registers of one PHY under one hold, which the Rust does not have: its `locked` over the body of its `read_reg`, once for each pair.
+/// The words that are left are the values: after an error of a read those before it, after one of acquire or release none.
+fn of_list(name: &[u8], a: &mut Arguments) -> Option<Operation> {
+    if name != b"mdio_list" { return None }
+    let (phy, words) = (a.word()?, a.rest());
+    let pairs = words.chunks(2).map(|pair| Some((pair[0], u16::try_from(*pair.get(1)?).ok()?))).collect::<Option<Vec<_>>>()?;
+    let addresses = std::iter::once(phy).chain(pairs.iter().map(|pair| pair.0)).collect();
+    let (count, mut values) = (pairs.len(), vec![]);
+    let run = move |talk: &mut Talk, port: Port| {
+        if count == 0 { return Done { answer: Ok(vec![]), left: Some(vec![]) } }
+        let token = if port.family == Family::X553 { sync::TOKEN } else { 0 };
+        let result = sync::locked(talk, port, sync::phy(port.lan) | token, |talk| {
+            for (device, register) in pairs {
+                let word = mdio::read_reg(&mut Body::of(talk), BODY, phy as u8, device as u8, register)?;
+                values.push(word as u32);
+            }
+            Ok(())
+        });
+        if result.is_err() && values.len() == count { values.clear() }
+        Done { answer: result.map(|()| values.clone()), left: Some(values) }
+    };
+    Some(Operation { addresses, pairs: count, block: 0, run: Box::new(run) })
 }
 
 fn of_phy_register(name: &[u8], a: &mut Arguments) -> Option<Operation> {

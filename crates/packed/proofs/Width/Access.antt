@@ -35,14 +35,15 @@ held_length (heldv.Mdio x0) = simp (length-append, wanted_length)
 held_length (heldv.Kr x0) = simp kr_wanted_length
 held_length (heldv.Nvm x0) = refl
 
-pub hold_for_length : (s : HoldFor) → length (words_hold_for s) ≡ 7
+pub hold_for_length : (s : HoldFor) → length (words_hold_for s) ≡ 8
 unfolding words_hold_for
 hold_for_length hold_forv.Alone = refl
 hold_for_length (hold_forv.Acquiring x0) = simp (length-append, held_length)
-hold_for_length (hold_forv.Releasing x0) = simp word_or_error_length
+hold_for_length (hold_forv.Listing x0 x1 x2) = refl
+hold_for_length (hold_forv.Releasing x0 x1) = simp word_or_error_length
 
-pub drop_hold_for : (s : HoldFor) (rest : List ℕ) → drop 7 (words_hold_for s ++ rest) ≡ rest
-drop_hold_for s rest = drop_at (words_hold_for s) rest 7 (hold_for_length s)
+pub drop_hold_for : (s : HoldFor) (rest : List ℕ) → drop 8 (words_hold_for s ++ rest) ≡ rest
+drop_hold_for s rest = drop_at (words_hold_for s) rest 8 (hold_for_length s)
 
 pub bits_place_length : (s : BitsPlace) → length (words_bits_place s) ≡ 8
 unfolding words_bits_place

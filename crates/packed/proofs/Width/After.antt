@@ -40,6 +40,7 @@ after_length afterv.Veto = refl
 after_length afterv.Link = refl
 after_length afterv.Abilities = refl
 after_length (afterv.Command x0) = refl
+after_length (afterv.List x0) = refl
 after_length (afterv.Token x0) = refl
 after_length (afterv.Activity x0 x1) = simp (length-append, activity_length)
 after_length (afterv.Mdio x0) = simp (length-append, after_mdio_length)

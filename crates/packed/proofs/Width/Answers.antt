@@ -74,6 +74,7 @@ value_length (valuev.Flag x0) = refl
 value_length (valuev.Word x0) = refl
 value_length (valuev.Link x0) = simp (length-append, link_length)
 value_length (valuev.Command x0 x1) = refl
+value_length (valuev.List x0) = refl
 value_length (valuev.Activity x0) = refl
 value_length (valuev.Probe x0) = simp (length-append, maybe_word_length)
 value_length (valuev.Scan x0) = simp (length-append, maybe_byte_word_length)

@@ -30,6 +30,7 @@ error_length errorv.Lan = refl
 error_length errorv.Fiber = refl
 error_length errorv.Address = refl
 error_length errorv.KrAddress = refl
+error_length errorv.Pairs = refl
 error_length errorv.Block = refl
 error_length errorv.Pause = refl
 

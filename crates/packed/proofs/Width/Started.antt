@@ -13,7 +13,7 @@ use Rattle.packed.proofs.Width.After.{after_length}
 use Rattle.packed.proofs.Width.Answers.{value_or_error_length}
 use Rattle.packed.proofs.Width.Hardware.{action_length}
 
-pub place_length : (s : Step Action Op (Ended Value)) → length (words_place s) ≡ 58
+pub place_length : (s : Step Action Op (Ended Value)) → length (words_place s) ≡ 59
 unfolding words_place
 place_length (stepv.Done x0) = simp (length-append, value_or_error_length)
 place_length (stepv.Ask x0 x1) = simp (length-append, action_length, hold_for_length, access_place_length, after_length)

@@ -1,7 +1,9 @@
 -- mdio.rs: actions and microseconds at the most
 use Rattle.std.specs.Prelude.{Ok, Option, None, Some}
-use Prim.Native.Nat.{ℕ, ◌+◌}
+use Prim.Native.Nat.{ℕ, ◌+◌, ◌*◌}
 use mathlib.Core.Bool.{Bool, ◌||◌}
+use mathlib.Core.List.{List, [], ◌∷◌, ◌++◌}
+use lib.ListN.{length}
 use native.Mathlib.Omega.{arith}
 use lib.Dec.{eqb}
 use Rattle.hardware.specs.Bound.{Within, at_end}
@@ -11,9 +13,9 @@ use Rattle.hardware.specs.declared.Port.{Port}
 use Rattle.hardware.proofs.Bounds.{within_more, within_pick, within_times}
 use Rattle.words.specs.Mdio.{address}
 use Rattle.answers.specs.declared.Speeds.{Speeds}
-use Rattle.reference.specs.Sync.{plain}
-use Rattle.reference.specs.Mdio.{cycle_turn, cycle, mask, read_body, read_reg, write_body, write_reg, modify, probe_high, probe, scan_found, scan_turn, scan, reset_last, reset_done, reset_turn, reset, abilities, advertise, an_link}
-use Rattle.reference.proofs.Within.{of_read, of_raw, of_write, of_delay, of_end, of_bind, of_carry}
+use Rattle.reference.specs.Sync.{plain, with_values}
+use Rattle.reference.specs.Mdio.{cycle_turn, cycle, mask, read_body, read_reg, list_body, mdio_list, write_body, write_reg, modify, probe_high, probe, scan_found, scan_turn, scan, reset_last, reset_done, reset_turn, reset, abilities, advertise, an_link}
+use Rattle.reference.proofs.Within.{of_read, of_raw, of_write, of_delay, of_end, of_bind, of_keep, of_lent, of_carry}
 use Rattle.reference.proofs.Bounds.Acquire.{of_locked}
 
 cycle_turn_lem : (f : ℕ → Call (Unit {0})) (n m : ℕ) → ((last : ℕ) → Within (f last) n m) → (last : ℕ) → Within (cycle_turn f last) (2 + n) (10 + m)
@@ -41,6 +43,20 @@ of_read_reg port phy dev reg = of_locked plain port (mask port) (read_body_lem (
 pub of_write_reg : (port : Port) (phy dev reg value : ℕ) → Within (write_reg port phy dev reg value) 16150229502 411114906000
 unfolding write_reg
 of_write_reg port phy dev reg value = of_locked plain port (mask port) (write_body_lem (address phy dev reg) value)
+
+-- one hold for all of a list
+list_body_lem : (phy : ℕ) (pairs : List (ℕ × ℕ)) (values : List ℕ) → Within (list_body phy pairs values) (403 * length pairs) (2000 * length pairs)
+list_body_lem phy [] values = at_end
+list_body_lem phy ((dev, reg) ∷ rest) values =
+    within_more (omega arith) (omega arith)
+    (of_lent (of_keep values (read_body_lem (address phy dev reg))) (λ v vs. list_body_lem phy rest (vs ++ v ∷ [])))
+
+pub of_list : (port : Port) (phy : ℕ) (pairs : List (ℕ × ℕ))
+    → Within (mdio_list port phy pairs) (16150229099 + 403 * length pairs) (411114904000 + 2000 * length pairs)
+unfolding mdio_list
+of_list port phy [] = at_end
+of_list port phy (pair ∷ rest) =
+    within_more (omega arith) (omega arith) (of_locked with_values port (mask port) (list_body_lem phy (pair ∷ rest) []))
 
 -- two
 pub of_modify : (port : Port) (phy dev reg keep set : ℕ) → Within (modify port phy dev reg keep set) 32300459004 822229812000

@@ -3,15 +3,16 @@ use Rattle.std.specs.Prelude.{Ok, Option, None, Some}
 use Prim.Native.Nat.{ℕ, ◌+◌}
 use mathlib.Core.Path.{refl}
 use mathlib.Core.Bool.{Bool, ◌||◌}
+use mathlib.Core.List.{List, [], ◌∷◌, ◌++◌}
 use lib.Dec.{eqb}
 use Rattle.hardware.specs.Talk.{Call, is_clear, return, fail}
 use Rattle.hardware.specs.declared.Error.TheVariants.{Timeout}
 use Rattle.hardware.specs.declared.Port.{Port}
 use Rattle.words.specs.Mdio.{address}
 use Rattle.answers.specs.declared.Speeds.{Speeds}
-use Rattle.reference.specs.Sync.{plain}
-use Rattle.reference.specs.Mdio.{cycle_turn, cycle, mask, read_reg, write_reg, modify, probe_high, probe, scan_found, scan_turn, scan, reset_last, reset_done, reset_turn, reset, abilities, advertise, an_link}
-use Rattle.reference.proofs.Alike.{Still, by_turns, ends, bind, picks, reads, raws, writes, waits}
+use Rattle.reference.specs.Sync.{plain, with_values}
+use Rattle.reference.specs.Mdio.{cycle_turn, cycle, mask, read_body, read_reg, list_body, mdio_list, write_reg, modify, probe_high, probe, scan_found, scan_turn, scan, reset_last, reset_done, reset_turn, reset, abilities, advertise, an_link}
+use Rattle.reference.proofs.Alike.{Still, by_turns, begins, ends, bind, keeps, lends, picks, reads, raws, writes, waits}
 use Rattle.reference.proofs.Pauses.Acquire.{of_locked}
 
 module _ {p q : ℕ} where
@@ -23,10 +24,22 @@ module _ {p q : ℕ} where
       (λ again w last. bind waits (λ _. bind (reads {reg = 0x425c} refl) (λ v. picks (is_clear v 0x40000000) (ends {a = Ok tt}) (w v)))) (λ last. ends) 100 0)
 
 module _ {p q : ℕ} (port : Port) where
+  of_body : (a : ℕ) → Still p q (read_body a)
+  of_body a = bind (of_cycle a) (λ _. bind (of_cycle _) (λ _. bind (raws refl) (λ v. ends)))
+
   pub of_read_reg : (phy dev reg : ℕ) → Still p q (read_reg port phy dev reg)
   unfolding read_reg
-  of_read_reg phy dev reg =
-      of_locked plain port (mask port) (bind (of_cycle (address phy dev reg)) (λ _. bind (of_cycle _) (λ _. bind (raws refl) (λ v. ends))))
+  of_read_reg phy dev reg = of_locked plain port (mask port) (of_body (address phy dev reg))
+
+  of_list_body : (phy : ℕ) (pairs : List (ℕ × ℕ)) (values : List ℕ) → Still p q (list_body phy pairs values)
+  of_list_body phy [] values = ends
+  of_list_body phy ((dev, reg) ∷ rest) values =
+      lends (keeps values (of_body (address phy dev reg))) (λ c e v vs. begins e (of_list_body phy rest (vs ++ v ∷ [])))
+
+  pub of_list : (phy : ℕ) (pairs : List (ℕ × ℕ)) → Still p q (mdio_list port phy pairs)
+  unfolding mdio_list
+  of_list phy [] = ends
+  of_list phy (pair ∷ rest) = of_locked with_values port (mask port) (of_list_body phy (pair ∷ rest) [])
 
   pub of_write_reg : (phy dev reg value : ℕ) → Still p q (write_reg port phy dev reg value)
   unfolding write_reg

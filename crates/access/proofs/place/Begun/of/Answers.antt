@@ -6,3 +6,6 @@ returns-in-ReadReg c = simp (c.in-ReadReg.is, read_begun, c.address.ensures, c.m
 
 pub returns-in-WriteReg : goal.returns-in-WriteReg
 returns-in-WriteReg c = simp (c.in-WriteReg.is, write_begun, c.address-in-WriteReg.ensures, c.mask-in-WriteReg.ensures, c.under-in-WriteReg.ensures)
+
+pub returns-in-ReadList : goal.returns-in-ReadList
+returns-in-ReadList c = simp (c.in-ReadList.is) c.listing.ensures

@@ -13,7 +13,7 @@ pub returns-then-self-eq0 : goal.returns-then-self-eq0
 returns-then-self-eq0 c = simp (c.if-self-eq0.true) (c.take.ensures _)
 
 pub returns-then-hw-eq0 : goal.returns-then-hw-eq0
-returns-then-hw-eq0 c = simp (ne_eqb _ _ c.if-self-eq0.false, times_more tries, c.hw.ensures, c.if-hw-eq0.true) (ask_begun c.args.self 999 c.token.ensures)
+returns-then-hw-eq0 c = simp (ne_eqb _ _ c.if-self-eq0.false, times_more tries, c.hw.ensures, c.if-hw-eq0.true) (ask_begun c.args.self _ 999 c.token.ensures)
 
 pub returns-else-hw-eq0 : goal.returns-else-hw-eq0
 returns-else-hw-eq0 c =

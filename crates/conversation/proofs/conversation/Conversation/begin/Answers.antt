@@ -1,9 +1,9 @@
-use Rattle.std.proofs.Common.{sym, ◌∙◌}
-use Rattle.conversation.proofs.Laws.{counted, few}
+use Rattle.std.proofs.Common.{◌∙◌}
+use Rattle.conversation.proofs.Laws.{few, few_pairs}
 use Rattle.conversation.proofs.conversation.Conversation.begin.Goals as goal
 
-pub slice_bounds-copied-end : goal.slice_bounds-copied-end
-slice_bounds-copied-end c = sym (counted c.args.port c.args.what c.args.block.now c.request-request.ensures)
+pub lent-words-requires-clause-block : goal.lent-words-requires-clause-block
+lent-words-requires-clause-block c = few c.args.port c.args.what c.args.block.now c.request-request.ensures (c.refusal.ensures ∙ c.in-Ok.is)
 
-pub copied-words-requires : goal.copied-words-requires
-copied-words-requires c = few c.args.port c.args.what c.args.block.now c.request-request.ensures (c.refusal.ensures ∙ c.in-Ok.is)
+pub lent-words-requires-clause-list : goal.lent-words-requires-clause-list
+lent-words-requires-clause-list c = few_pairs c.args.port c.args.what c.args.block.now c.request-request.ensures (c.refusal.ensures ∙ c.in-Ok.is)

@@ -29,6 +29,10 @@ pub returns-in-Command-clause-adds : goal.returns-in-Command-clause-adds
 unfolding words_after
 returns-in-Command-clause-adds c = rw c.in-Command.is (then c.word-at-in-Command.ensures (then c.word-at-in-Command-2.ensures c.zeros-in-Command.ensures))
 
+pub returns-in-List-clause-adds : goal.returns-in-List-clause-adds
+unfolding words_after
+returns-in-List-clause-adds c = rw c.in-List.is (then c.word-at-in-List.ensures (then c.word-at-in-List-2.ensures c.zeros-in-List.ensures))
+
 pub returns-in-Token-clause-adds : goal.returns-in-Token-clause-adds
 unfolding words_after
 returns-in-Token-clause-adds c = rw c.in-Token.is (then c.word-at-in-Token.ensures (then c.flag-at.ensures c.zeros-in-Token.ensures))

@@ -29,6 +29,10 @@ pub returns-in-Command-clause-adds : goal.returns-in-Command-clause-adds
 unfolding words_value
 returns-in-Command-clause-adds c = rw c.in-Command.is (then c.word-at-in-Command.ensures (then (rw c.wide_byte.ensures.same at c.word-at-in-Command-2.ensures) (then c.word-at-in-Command-3.ensures c.zeros-in-Command.ensures)))
 
+pub returns-in-List-clause-adds : goal.returns-in-List-clause-adds
+unfolding words_value
+returns-in-List-clause-adds c = rw c.in-List.is (then c.word-at-in-List.ensures (then c.word-at-in-List-2.ensures c.zeros-in-List.ensures))
+
 pub returns-in-Activity-clause-adds : goal.returns-in-Activity-clause-adds
 unfolding words_value
 returns-in-Activity-clause-adds c = rw c.in-Activity.is (then c.word-at-in-Activity.ensures (then c.word-at-in-Activity-2.ensures (then c.word-at-in-Activity-3.ensures (then c.word-at-in-Activity-4.ensures (then c.word-at-in-Activity-5.ensures c.zeros-in-Activity.ensures)))))

@@ -54,6 +54,10 @@ pub returns-in-KrAddress-clause-adds : goal.returns-in-KrAddress-clause-adds
 unfolding words_error
 returns-in-KrAddress-clause-adds c = rw c.in-KrAddress.is (then c.word-at-in-KrAddress.ensures c.zeros-in-KrAddress.ensures)
 
+pub returns-in-Pairs-clause-adds : goal.returns-in-Pairs-clause-adds
+unfolding words_error
+returns-in-Pairs-clause-adds c = rw c.in-Pairs.is (then c.word-at-in-Pairs.ensures c.zeros-in-Pairs.ensures)
+
 pub returns-in-Block-clause-adds : goal.returns-in-Block-clause-adds
 unfolding words_error
 returns-in-Block-clause-adds c = rw c.in-Block.is (then c.word-at-in-Block.ensures c.zeros-in-Block.ensures)
