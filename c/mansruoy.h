@@ -10,10 +10,10 @@
  *     mansruoy_answered r = mansruoy_answer(s.to);
  *
  * Numbers of a call: 0 it went well; 20 lan above 1, 21 a fiber device, 22 a PHY or device address above 31, 35 a KR address
- * above 0xffff, 31 a list of more than 64 pairs, 23 a host block above 16 words, 32 a pause of 0 or above 100; 24 the conversation has
- * ended; 25 a reply's kind above 1, or in a run an odd number of reply words; 26 no reply left, 27 no room for three words (both stop a
- * run, which goes on from what it gives back); 100 no such family, device or operation, or arguments that are not the operation's; 101
- * words that are no conversation; 102 it
+ * above 0xffff, 31 a list of more than 64 pairs, 23 a host block above 16 words, 32 a pause of 0 or above 100, 40 a poll's minute
+ * or windows that are none; 24 the conversation has ended; 25 a reply's kind above 1, or in a run an odd number of reply words; 26 no
+ * reply left, 27 no room for three words (both stop a run, which goes on from what it gives back); 100 no such family, device or
+ * operation, or arguments that are not the operation's; 101 words that are no conversation; 102 it
  * has not ended. A call that is turned away changes nothing.
  *
  * No pointer may be null, also where its length is 0, and the two buffers of a run do not overlap.
@@ -60,7 +60,8 @@ typedef struct {
 
 /* Begins an operation. Family 552 or 553. Pause: the microseconds between two reads of a busy sideband, 1 to 100; 10 is the Rust's,
  * and every call of `begin` may have another. Name and arguments are those of the tracer's second line: for example "kr_read" with
- * the address, "bringup" with veto (0 or 1), "poll" with phy, internal (0 iXFI, 1 KR), forced (0, or 1 and the status), reforced.
+ * the address, "bringup" with veto (0 or 1), "poll" with phy, internal (0 iXFI, 1 KR), forced (0, or 1 and the status), reforced,
+ * and, where there are windows in which it is not to force, the minute of the week and each window's start and end.
  * docs/OPERATIONS.md has the arguments, the answer's words and the errors of each. */
 mansruoy_stepped mansruoy_begin(uint32_t family, uint32_t device, uint32_t lan, uint32_t pause, const char *name,
                                 size_t name_len, const uint32_t *arguments, size_t arguments_len);

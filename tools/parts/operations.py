@@ -27,7 +27,7 @@ OPERATIONS = {
     'nvm_word': 'half',
     'after_reset': '',
     'bringup': 'truth',
-    'poll': 'phy place option_half word',
+    'poll': 'phy place option_half word windows',
 }
 DEVICES = {
     'X552': '15aa 15ab 15ac 15ad 15ae 15b0'.split(),

@@ -32,6 +32,11 @@ KINDS = {
     'option_truth': (lambda r, phy: r.choice(([0], [1, 0], [1, 1])), ([0], [1, 0], [1, 1], [1, 2], [2], [2, 0], [0, 0], [1])),
     'option_half': (lambda r, phy: r.choice(([0], [0], [1, 7], [1, 5], [1, 3], [1, r.getrandbits(16)])),
                     ([0], [1, 0xffff], [1, 0x10000], [2], [2, 0], [0, 0], [1])),
+    'windows': (lambda r, phy: windows(r), (
+        [], [0x275f], [0x2760], [0xffffffff], [600, 1], [600, 5, 5], [600, 0x2760, 5], [600, 5, 0x2760], [600, 600, 601], [600, 599, 600],
+        [0x2755, 0x2756, 5], [0x2756, 0x2756, 5], [0x275f, 0x2756, 5], [0, 0x2756, 5], [4, 0x2756, 5], [5, 0x2756, 5], [600, 601, 600],
+        [600, 1, 2, 600, 601], [600] + [1, 2] * 32, [600] + [1, 2] * 33, [600] + [1, 2] * 32 + [1], [600] + [1, 2] * 33 + [1],
+        [600] + [1, 2] * 200, [600] + [1, 2] * 200 + [1])),
     'block': (lambda r, phy: [r.choice((0, 0xffffffff, *[r.getrandbits(32)] * 3)) for _ in range(r.choice((0, 1, 2, 2, 3, 6, 15, 16)))],
               ([], [0] * 15, [0] * 16, [0] * 17, [1] * 100, [0xffffffff] * MANY)),
 }
@@ -40,6 +45,16 @@ KINDS = {
 def pairs(rng, count):
     """As many pairs of device and register."""
     return [word for _ in range(count) for word in (rng.choice((1, 3, 4, 7, 0x1e, rng.randrange(32))), rng.getrandbits(16))]
+def windows(rng):
+    """A poll's minute and windows, none of either, or windows of which one may hold the minute, with the minute at one of its edges or not."""
+    week, minute = 10080, rng.choice((0, 10079, rng.randrange(10080), rng.randrange(10080)))
+    if rng.random() < 0.4:
+        return rng.choice(([], [], [minute]))
+    after = rng.choice((0, 1, rng.randrange(1, 600), rng.randrange(1, week - 1)))
+    length = rng.choice((after + 1, after + 1, after + rng.randrange(1, 600), after, rng.randrange(1, week)))
+    near = (minute - after) % week, (minute - after + length) % week
+    others = [rng.sample(range(week), 2) for _ in range(rng.choice((0, 0, 1, 2, 4, 31)))]
+    return [minute, *sum(rng.sample([*others, list(near)] if near[0] != near[1] else others, len(others) + (near[0] != near[1])), [])]
 
 
 def line(*words):

@@ -57,7 +57,7 @@ resume_after port (after.Activity asked s) got ws = answer value.Activity (resum
 resume_after port (after.Mdio s) got ws = resume_mdio port s got
 resume_after port (after.Kr s) got ws = resume_kr port s got
 resume_after port (after.Bringup veto s) got ws = keep (resume_bringup (record { port = port; veto = veto }) s got ws) []
-resume_after port (after.Poll w s) got ws = answer poll_value (resume_poll port w s got)
+resume_after port (after.Poll a s) got ws = answer poll_value (resume_poll port a s got)
 
 -- an operation's end, with the words of the block that belong to it
 abbrev pub out : List ℕ → Ended Value → Out

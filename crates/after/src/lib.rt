@@ -20,7 +20,7 @@ use crate::kr_registers::Kr;
 use crate::registers::Mdio;
 use activity::Activity;
 use answers::{Value, Words};
-use arguments::{Asked, Watch};
+use arguments::{Asked, Windowed};
 use bringup::Bringup;
 use hardware::{Error, Managed, Port, Step};
 use jobs::job::{Ended, Job};
@@ -50,7 +50,7 @@ pub enum After {
     Kr(Kr),
     // veto
     Bringup(bool, Bringup),
-    Poll(Watch, Poll),
+    Poll(Windowed, Poll),
 }
 
 impl After {
@@ -154,13 +154,13 @@ impl After {
     #[tactic(auto, using(hardware::proofs::Laws::then_assoc))]
     pub fn poll(
         port: Port,
-        watch: Watch,
+        asked: Windowed,
         step: Step<Job, Poll, Result<Polled, Error>>,
     ) -> Step<Job, After, Ended<Value>>
-        ensures { (b : List ℕ) → told_after port b result ≡ answer poll_value (told_poll port watch b step) }
+        ensures { (b : List ℕ) → told_after port b result ≡ answer poll_value (told_poll port asked b step) }
     {
         match step {
-            Step::Ask(job, s) => Step::Ask(job, After::Poll(watch, s)),
+            Step::Ask(job, s) => Step::Ask(job, After::Poll(asked, s)),
             Step::Done(Err(e)) => After::plain(Err(e)),
             Step::Done(Ok(polled)) => {
                 After::plain(Ok(Value::Poll {
@@ -201,7 +201,7 @@ impl After {
                 let step = s.next(managed, block, given);
                 After::bringup(managed, step)
             }
-            After::Poll(watch, s) => After::poll(port, watch, s.next(watch, port, given.answer)),
+            After::Poll(asked, s) => After::poll(port, asked, s.next(asked, port, given.answer)),
         }
     }
 }

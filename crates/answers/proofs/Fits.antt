@@ -59,6 +59,8 @@ value_fits (valuev.Poll (copperv.Up m) None n) = refl
 value_fits (valuev.Poll (copperv.Up m) (Some s) n) = refl
 value_fits (valuev.Poll (copperv.Invalid t) None n) = refl
 value_fits (valuev.Poll (copperv.Invalid t) (Some s) n) = refl
+value_fits (valuev.Poll (copperv.Held m) None n) = refl
+value_fits (valuev.Poll (copperv.Held m) (Some s) n) = refl
 
 pub values_fit : (e : Error) → kept (values e) ≡ values e
 unfolding kept
@@ -78,3 +80,4 @@ values_fit errorv.KrAddress = refl
 values_fit errorv.Pairs = refl
 values_fit errorv.Block = refl
 values_fit errorv.Pause = refl
+values_fit errorv.Windows = refl

@@ -1,4 +1,4 @@
--- An answer's words in a listing: an enum is its place in the Rust from 0, then its fields; an absent option is 0, a present
+-- An answer's words in a listing: an enum is its place in the Rust from 0 (held, which the Rust has not, the next), then its fields; an absent option is 0, a present
 -- one 1 and its value; a truth value is 0 or 1
 use Rattle.std.specs.Prelude.{ℕ, Bool, true, false, List, [], ◌∷◌, ◌++◌, take, Option, None, Some}
 use Rattle.words.specs.declared.link.Link.{Link}
@@ -50,6 +50,7 @@ abbrev pub copper : Copper → List ℕ
 copper copperv.Down = 0 ∷ []
 copper (copperv.Up m) = 1 ∷ m ∷ []
 copper (copperv.Invalid status) = 2 ∷ status ∷ []
+copper (copperv.Held m) = 3 ∷ m ∷ []
 
 abbrev pub x557 : X557 → List ℕ
 x557 p = p.phy ∷ p.id ∷ p.sel ∷ flag p.unstalled ∷ flag p.reset ∷ internal p.internal ∷ []

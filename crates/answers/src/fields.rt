@@ -118,6 +118,7 @@ impl Fields {
             Copper::Down => self.word(0),
             Copper::Up { megabits } => self.word(1).word(megabits),
             Copper::Invalid { status } => self.word(2).word(status as u32),
+            Copper::Held { megabits } => self.word(3).word(megabits),
         }
     }
 
@@ -234,7 +235,8 @@ impl Fields {
             | Error::KrAddress
             | Error::Pairs
             | Error::Block
-            | Error::Pause => self,
+            | Error::Pause
+            | Error::Windows => self,
         }
     }
 }
@@ -315,5 +317,6 @@ pub fn error_number(e: Error) -> u32
         Error::Pairs => 31,
         Error::Block => 23,
         Error::Pause => 32,
+        Error::Windows => 40,
     }
 }

@@ -35,6 +35,8 @@ pub enum Copper {
     Down,
     Up { megabits: u32 },
     Invalid { status: u16 },
+    // not the Rust's: up, and inside a window, so the internal link is not forced to these megabits
+    Held { megabits: u32 },
 }
 
 // Prepared::Copper of x552.rs.

@@ -51,6 +51,13 @@ pub struct Watch {
     pub reforced: u32,
 }
 
+// A Watch, and whether the minute of its poll lies in a window, in which the internal link is not forced anew.
+#[derive(Clone, Copy)]
+pub struct Windowed {
+    pub watch: Watch,
+    pub inside: bool,
+}
+
 // What a poll leaves in the Watch: the status that the internal link was forced for, and how often it was.
 #[derive(Clone, Copy)]
 pub struct Left {

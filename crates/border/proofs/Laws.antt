@@ -7,7 +7,7 @@ use lib.Dec.{eqb}
 use lib.ListN.{length, length-append}
 use Rattle.hardware.specs.Numbers as error
 use Rattle.hardware.specs.declared.Error.{Error}
-use Rattle.hardware.specs.declared.Error.TheVariants.{Io, Removed, Timeout, Sideband, Semaphore, HostInterface, Firmware, NoPhy, PhyReset, Lan, Fiber, Address, KrAddress, Pairs, Block, Pause}
+use Rattle.hardware.specs.declared.Error.TheVariants.{Io, Removed, Timeout, Sideband, Semaphore, HostInterface, Firmware, NoPhy, PhyReset, Lan, Fiber, Address, KrAddress, Pairs, Block, Pause, Windows}
 use Rattle.hardware.specs.declared.Action.{Action}
 use Rattle.hardware.specs.declared.Step.{Step}
 use Rattle.jobs.specs.declared.job.Ended.{Ended}
@@ -45,3 +45,4 @@ error_number_lem KrAddress = refl
 error_number_lem Pairs = refl
 error_number_lem Block = refl
 error_number_lem Pause = refl
+error_number_lem Windows = refl

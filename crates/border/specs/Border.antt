@@ -1,5 +1,5 @@
 -- What a call from C comes to
-use Rattle.std.specs.Prelude.{ℕ, Bool, ◌&&◌, ◌||◌, List, [], eqb, length, take, replicate, Option, Some, None, Ok, Err}
+use Rattle.std.specs.Prelude.{ℕ, ◌-◌, Bool, ◌&&◌, ◌||◌, List, [], eqb, length, take, drop, replicate, Option, Some, None, Ok, Err}
 use Rattle.hardware.specs.Numbers as error
 use Rattle.hardware.specs.Numbers.{stop_number, misuse_number}
 use Rattle.hardware.specs.declared.Misuse.TheVariants.{Unknown, NotHeld, NotEnded}
@@ -18,7 +18,6 @@ use Rattle.drive.specs.Moves.{Tape}
 use Rattle.calls.specs.Run.{Shown, tape_of, left, run_all}
 use Rattle.operations.specs.declared.Operation.{Operation}
 use Rattle.trace.specs.Kinds.{Line}
-use Rattle.trace.specs.Operation.{lent_words}
 use Rattle.border.specs.Held.{held_by, is_held}
 use Rattle.border.specs.declared.held.Held.{Held}
 use Rattle.border.specs.declared.Asked.{Asked}
@@ -49,7 +48,7 @@ opens p what ws = opened (refused p what ws) (begun p what ws)
 -- 100 for a port or an operation that is none, or arguments that are not the operation's
 abbrev pub begins_line : Port → Line → List ℕ → Outcome
 begins_line p None args = stayed (misuse_number Unknown) nothing
-begins_line p (Some (what, n)) args = opens p what (lent_words what n args)
+begins_line p (Some (what, n)) args = opens p what (drop (length args - n) args)
 
 abbrev pub begins : Option Port → Line → List ℕ → Outcome
 begins None l args = stayed (misuse_number Unknown) nothing

@@ -5,8 +5,8 @@
 pub mod held;
 pub mod port;
 
-ghost use Rattle.std.specs.Prelude.{◌≡◌, take};
-ghost use Rattle.trace.specs.Operation.{by_name, lent_words};
+ghost use Rattle.std.specs.Prelude.{◌≡◌, ◌-◌, drop, length};
+ghost use Rattle.trace.specs.Operation.{by_name};
 ghost use Rattle.hardware.specs.Numbers.{misuse_number};
 ghost use Rattle.hardware.specs.declared.Misuse.TheVariants.{Unknown};
 ghost use Rattle.border.specs.Border.{stayed, nothing, outcome_of, begins, opens, steps, asks, none, answer, saying, no_answer, answers, answered_of, not_run, runs, ran_of};
@@ -21,7 +21,7 @@ use conversation::run::run;
 use drive::{kind_of, register_of, value_of};
 use hardware::{Error, Misuse, Port, Step, Stop};
 use operations::Operation;
-use trace::operation::{lent, named};
+use trace::operation::named;
 
 // What `mansruoy_begin` and `mansruoy_step` answer: 0 and the conversation as it is now, or a number and what was handed in.
 #[repr(C)]
@@ -71,7 +71,7 @@ const NOTHING: Held = Held {
     block: [0; 80],
 };
 
-// Begins an operation that is not turned away; its host block or its pairs are lent.
+// Begins an operation that is not turned away, with the words that are lent to it.
 #[tactic(auto, using(crate::proofs::Laws::error_number_lem), unfolding(crate::specs::Border::opens, crate::specs::Border::outcome_of))]
 fn open(port: Port, what: Operation, block: &[u32]) -> Stepped
     ensures { outcome_of result.number result.to ≡ opens port what block.now }
@@ -88,11 +88,11 @@ fn open(port: Port, what: Operation, block: &[u32]) -> Stepped
     }
 }
 
-// Some words of the arguments are lent.
+// The words that are lent are the last n arguments, or all of them.
 fn begin_at(port: Port, what: Operation, arguments: &[u32], n: usize) -> Stepped
-    ensures { outcome_of result.number result.to ≡ opens port what (lent_words what n arguments.now) }
+    ensures { outcome_of result.number result.to ≡ opens port what (drop (length arguments.now - n) arguments.now) }
 {
-    open(port, what, lent(what, arguments, n))
+    open(port, what, &arguments[arguments.len().saturating_sub(n)..])
 }
 
 // No such family, device or operation, or arguments that are not the operation's.

@@ -1,20 +1,23 @@
 -- Worked examples of `begin`: what it turns away, and what not
-use Rattle.std.specs.Prelude.{ℕ, zero, suc, Err}
+use Rattle.std.specs.Prelude.{ℕ, zero, suc, Err, Option, None, Some}
 use mathlib.Core.Path.{◌≡◌, refl}
 use mathlib.Core.List.{List, [], ◌∷◌, ◌++◌}
 use Rattle.hardware.specs.Refusal.{refusal}
 use Rattle.hardware.specs.Talk.{end}
 use Rattle.hardware.specs.declared.Error.{Error}
-use Rattle.hardware.specs.declared.Error.TheVariants.{Lan, Fiber, Address, KrAddress, Pairs, Block, Pause}
+use Rattle.hardware.specs.declared.Error.TheVariants.{Lan, Fiber, Address, KrAddress, Pairs, Block, Pause, Windows}
 use Rattle.hardware.specs.declared.Family.{Family}
 use Rattle.hardware.specs.declared.Family.TheVariants.{X552, X553}
 use Rattle.hardware.specs.declared.Port.{Port}
+use Rattle.reference.specs.Pauses.{with_pause}
 use Rattle.operations.specs.Request.{request}
 use Rattle.arguments.specs.declared.Change.{Change}
 use Rattle.words.specs.Kr.{krm}
 use Rattle.operations.specs.Example.{at552, other552}
 use Rattle.operations.specs.Operations.{operation}
-use Rattle.operations.specs.declared.Operation.TheVariants.{Veto, Command, Probe, ReadReg, MdioList, KrRead, KrWrite, KrModify}
+use Rattle.operations.specs.declared.Operation.{Operation}
+use Rattle.operations.specs.declared.Operation.TheVariants.{Veto, Command, Probe, ReadReg, MdioList, KrRead, KrWrite, KrModify, Poll}
+use Rattle.answers.specs.declared.Internal.TheVariants.{Ixfi}
 use Rattle.calls.specs.Conversation.{Conv, begun, opening}
 
 -- a port of lan 0
@@ -197,3 +200,61 @@ kr_before_pause = refl
 block_before_pause : begun (paused 0) Command (words 17) ≡ refused (paused 0) Block
 unfolding refusal request
 block_before_pause = refl
+
+-- ---- a poll's minute and windows
+
+abbrev polls : ℕ → Option ℕ → Operation
+polls phy minute = Poll (record { phy = phy; internal = Ixfi; forced = None; reforced = 0 }) minute
+
+-- the last minute of the week, and the one behind it
+minute_10079 : begun at552 (polls 3 (Some 10079)) [] ≡ opening at552 (operation at552 (polls 3 (Some 10079)) [])
+unfolding refusal request
+minute_10079 = refl
+
+minute_10080 : begun at552 (polls 3 (Some 10080)) [] ≡ refused at552 Windows
+unfolding refusal request
+minute_10080 = refl
+
+-- 32 windows, and one more
+abbrev lodged : ℕ → List ℕ
+lodged zero = []
+lodged (suc n) = 10079 ∷ 0 ∷ lodged n
+
+windows_32 : begun at552 (polls 3 (Some 600)) (lodged 32) ≡ opening at552 (operation at552 (polls 3 (Some 600)) (lodged 32))
+unfolding refusal request
+windows_32 = refl
+
+windows_33 : begun at552 (polls 3 (Some 600)) (lodged 33) ≡ refused at552 Windows
+unfolding refusal request
+windows_33 = refl
+
+-- a start or an end that is no minute, one that is its end, and half a window
+start_10080 : begun at552 (polls 3 (Some 600)) (10080 ∷ 5 ∷ []) ≡ refused at552 Windows
+unfolding refusal request
+start_10080 = refl
+
+end_10080 : begun at552 (polls 3 (Some 600)) (5 ∷ 10080 ∷ []) ≡ refused at552 Windows
+unfolding refusal request
+end_10080 = refl
+
+of_no_minute : begun at552 (polls 3 (Some 600)) (5 ∷ 6 ∷ 7 ∷ 7 ∷ []) ≡ refused at552 Windows
+unfolding refusal request
+of_no_minute = refl
+
+half_a_window : begun at552 (polls 3 (Some 600)) (5 ∷ 6 ∷ 7 ∷ []) ≡ refused at552 Windows
+unfolding refusal request
+half_a_window = refl
+
+-- the PHY and the pause are looked at first
+phy_before_windows : begun at552 (polls 32 (Some 10080)) [] ≡ refused at552 Address
+unfolding refusal request
+phy_before_windows = refl
+
+pause_before_windows : begun (with_pause 0 at552) (polls 3 (Some 10080)) [] ≡ refused (with_pause 0 at552) Pause
+unfolding refusal request
+pause_before_windows = refl
+
+-- without a minute the words mean nothing
+no_minute : begun at552 (polls 3 None) (7 ∷ 7 ∷ 10080 ∷ []) ≡ begun at552 (polls 3 None) []
+unfolding refusal request
+no_minute = refl

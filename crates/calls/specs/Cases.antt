@@ -1,5 +1,5 @@
 -- The proved cases of document 01 in one table: those of words alone, and those of operations as `begin` begins them
-use Rattle.std.specs.Prelude.{ℕ, List, [], ◌∷◌, ◌++◌, Some, Ok, Err}
+use Rattle.std.specs.Prelude.{ℕ, List, [], ◌∷◌, ◌++◌, None, Some, Ok, Err}
 use Rattle.hardware.specs.Numbers.{number, values, stop_number}
 use Rattle.hardware.specs.Talk.{Reply}
 use Rattle.hardware.specs.declared.Stop.TheVariants.{NoReply}
@@ -32,7 +32,7 @@ sends reg what rs = written reg (begun at552 what []).talk rs
 
 -- a poll of a PHY with this status, which the internal link is forced to already
 abbrev polled : ℕ → List ℕ
-polled status = ends (Poll (record { phy = 3; internal = Kr; forced = Some status; reforced = 0 }))
+polled status = ends (Poll (record { phy = 3; internal = Kr; forced = Some status; reforced = 0 }) None)
     (phy_linked ++ phy_read status ++ phy_linked)
 
 -- to the second word of the host block

@@ -1,6 +1,7 @@
 pub mod Conversation
 pub mod Run
 pub mod Session
+pub mod Windows
 pub mod Cases
 pub mod Pauses
 pub mod Lists

@@ -9,7 +9,7 @@ use Rattle.jobs.specs.declared.job.Ended.{Ended}
 use Rattle.answers.specs.declared.Value.{Value}
 use Rattle.started.specs.declared.operation.Op.{Op}
 use Rattle.hardware.specs.declared.Port.{Port}
-use Rattle.operations.specs.declared.Operation.{Operation}
+use Rattle.trace.specs.declared.operation.OperationLine.{OperationLine}
 use Rattle.streams.specs.Input.{Fetches}
 use Rattle.streams.specs.declared.input.Fetched.{Fetched}
 use Rattle.std.proofs.Math.Seq.{sets}
@@ -109,7 +109,7 @@ module _ {from : Moved} {old : List ℕ} {known : Option (List ℕ)} {waiting : 
 -- ---- the two lines that begin it
 
 pub reads_lines : {E : Type 0} (r : Result Input E) (P : List ℕ → Type 0) (new : List ℕ) (asked : Bool) {old mid last line line₂ args : List ℕ}
-    {i : Input} {first second : Fetched} {port : Option Port} {what : Option (Operation × ℕ)}
+    {i : Input} {first second : Fetched} {port : Option Port} {what : Option OperationLine}
     → Fetches old i mid first → line_of mid first.next ≡ line → port_of (words line) ≡ port
     → Fetches mid first.input last second → line_of last second.next ≡ line₂ → operation_of (words line₂) ≡ what
     → args ≡ sets (replicate 7282 0) 0 (numbers (drop 1 (words line₂)))

@@ -1,11 +1,12 @@
 -- A listing from the port's line on
-use Rattle.std.specs.Prelude.{ℕ, ◌≡◌, Bool, List, Option, Some, None, drop, replicate}
+use Rattle.std.specs.Prelude.{ℕ, ◌≡◌, Bool, List, Option, Some, None, take, drop, replicate}
 use Rattle.std.proofs.lemmas.List.Edits.{sets}
 use Rattle.hardware.specs.declared.Port.{Port}
 use Rattle.text.specs.Words.{words}
 use Rattle.operations.specs.declared.Operation.{Operation}
+use Rattle.trace.specs.declared.operation.OperationLine.{OperationLine}
 use Rattle.trace.specs.Arguments.{numbers}
-use Rattle.trace.specs.Operation.{lent_words, operation_of}
+use Rattle.trace.specs.Operation.{operation_of}
 use Rattle.lines.specs.Port.{port_of}
 use Rattle.lines.specs.Listing.{stop_text}
 use Rattle.calls.specs.Conversation.{begun}
@@ -26,14 +27,14 @@ pub record Refused (i : Input) (old new text : List ℕ) (rest : Input) : Type 0
   pub leaves : rest ≡ i
 
 -- the listing of what `begin` makes
-pub record Begins (port : Port) (what : Operation) (block : List ℕ) (i : Input) (asked : Bool) (old new text : List ℕ) (rest : Input) : Type 0 where
+pub record Begins (port : Port) (what : Operation) (lent : List ℕ) (i : Input) (asked : Bool) (old new text : List ℕ) (rest : Input) : Type 0 where
   pub from : Moved
-  pub begins : conv_of from.to ≡ begun port what block
+  pub begins : conv_of from.to ≡ begun port what lent
   pub there : from.input ≡ i
   pub listed : Listed from old new asked text rest
 
-abbrev pub Opened : Option Port → Option (Operation × ℕ) → List ℕ → Input → Bool → List ℕ → List ℕ → List ℕ → Input → Type 0
-Opened (Some port) (Some what) args i asked old new text rest = Begins port what.0 (lent_words what.0 what.1 args) i asked old new text rest
+abbrev pub Opened : Option Port → Option OperationLine → List ℕ → Input → Bool → List ℕ → List ℕ → List ℕ → Input → Type 0
+Opened (Some port) (Some what) args i asked old new text rest = Begins port what.what (take what.words (drop what.from args)) i asked old new text rest
 Opened (Some port) None args i asked old new text rest = Refused i old new text rest
 Opened None what args i asked old new text rest = Refused i old new text rest
 
@@ -41,7 +42,7 @@ Opened None what args i asked old new text rest = Refused i old new text rest
 abbrev pub port_in : List ℕ → Fetched → Option Port
 port_in buf f = port_of (words (line_of buf f.next))
 
-abbrev pub what_in : List ℕ → Fetched → Option (Operation × ℕ)
+abbrev pub what_in : List ℕ → Fetched → Option OperationLine
 what_in buf f = operation_of (words (line_of buf f.next))
 
 abbrev pub args_in : List ℕ → Fetched → List ℕ

@@ -1,6 +1,5 @@
 // A listing, from the port's line on.
-ghost use Rattle.std.specs.Prelude.{◌≡◌, ℕ, List, IfOk};
-ghost use Rattle.trace.specs.Operation.{lent_words};
+ghost use Rattle.std.specs.Prelude.{◌≡◌, ℕ, List, take, drop, IfOk};
 ghost use Rattle.calls.specs.Conversation.{begun};
 ghost use Rattle.conversation.specs.Conversation.{conv_of};
 ghost use Rattle.console.specs.Opened.{Opened, Listing};
@@ -19,19 +18,27 @@ use streams::ending::stop;
 use streams::input::{Fetched, Input, fetch};
 use streams::output::Waiting;
 use streams::part::line_of;
-use trace::operation::{lent, operation_line};
+use trace::operation::{OperationLine, operation_line};
 
-// Some words of the arguments are lent.
+// So many words are lent, or all of them.
 fn begin(port: Port, what: Operation, args: &[u32], words: usize) -> Conversation
-    ensures { conv_of result ≡ begun port what (lent_words what words args.now) }
+    ensures { conv_of result ≡ begun port what (take words args.now) }
 {
-    Conversation::begin(port, what, lent(what, args, words))
+    Conversation::begin(port, what, args.get(..words).unwrap_or(args))
+}
+
+// Those from a place of the arguments on.
+fn begin_named(port: Port, named: OperationLine, args: &[u32]) -> Conversation
+    ensures { conv_of result ≡ begun port named.what (take named.words (drop named.from args.now)) }
+{
+    let lent = args.get(named.from..).unwrap_or(&[]);
+    begin(port, named.what, lent, named.words)
 }
 
 // 25 where a line was missing or cannot be read.
 fn opened<R: Read, W: Write>(
     port: Option<Port>,
-    what: Option<(Operation, usize)>,
+    named: Option<OperationLine>,
     args: &[u32; 7282],
     source: &mut R,
     buf: &mut [u8],
@@ -40,13 +47,13 @@ fn opened<R: Read, W: Write>(
     waiting: &mut Waiting,
     asked: bool,
 ) -> io::Result<Input>
-    ensures { IfOk result (λ rest. (text : List ℕ) × (Opened port what args.now input asked buf.old buf.new text rest) × (Prints (W.contents sink.old) waiting.old text (W.contents sink.new) waiting.new)) }
+    ensures { IfOk result (λ rest. (text : List ℕ) × (Opened port named args.now input asked buf.old buf.new text rest) × (Prints (W.contents sink.old) waiting.old text (W.contents sink.new) waiting.new)) }
 {
-    let (Some(port), Some((operation, words))) = (port, what) else {
+    let (Some(port), Some(named)) = (port, named) else {
         stop(Fault::BadLine.number(), 0, 0, sink, waiting)?;
         return Ok(input);
     };
-    let to = begin(port, operation, args, words);
+    let to = begin_named(port, named, args);
     talk(Moved { to, input }, source, buf, sink, waiting, asked)
 }
 
@@ -66,6 +73,6 @@ pub fn listing<R: Read, W: Write>(
     let Fetched { next, input } = fetch(source, buf, input);
     let port = port_line(line_of(buf, next));
     let Fetched { next, input } = fetch(source, buf, input);
-    let what = operation_line(line_of(buf, next), &mut args);
-    opened(port, what, &args, source, buf, input, sink, waiting, asked)
+    let named = operation_line(line_of(buf, next), &mut args);
+    opened(port, named, &args, source, buf, input, sink, waiting, asked)
 }

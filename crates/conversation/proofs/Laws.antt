@@ -35,7 +35,7 @@ take_padded ws = take_at ws (drop (length ws) (replicate 80 0)) (length ws) refl
 
 -- it begins with the operation, on the words that are lent
 begins_lem : (port : Port) (what : Operation) (ws : List ℕ) → refusal (request port what ws) ≡ Ok tt
-    → begins port what (request port what ws).words (request port what ws).pairs (first_words what (request port what ws).words ws) ≡ operation port what ws
+    → begins port what (request port what ws).words (request port what ws).pairs ws (first_words what (request port what ws).words ws) ≡ operation port what ws
 unfolding request begins first_words
 begins_lem port operationv.Veto ws t = refl
 begins_lem port operationv.Link ws t = refl
@@ -62,7 +62,7 @@ begins_lem port (operationv.KrAutoneg kr kx) ws t = refl
 begins_lem port (operationv.NvmWord word) ws t = refl
 begins_lem port operationv.AfterReset ws t = refl
 begins_lem port (operationv.Bringup veto) ws t = refl
-begins_lem port (operationv.Poll w) ws t = refl
+begins_lem port (operationv.Poll w minute) ws t = refl
 
 list_few : (port : Port) (phy : ℕ) (ws : List ℕ) → refusal (request port (operationv.MdioList phy) ws) ≡ Ok tt → length (pairs_of ws) ≤ 64
 unfolding request
@@ -79,12 +79,12 @@ module _ (port : Port) (what : Operation) (ws : List ℕ) {r : Request} (asks : 
   pub few_pairs : (phy : ℕ) → what ≡ operationv.MdioList phy → length (pairs_of ws) ≤ 64
   few_pairs phy is = list_few port phy ws (subst (λ (w : Operation). refusal (request port w ws) ≡ Ok tt) is verdict)
 
-  pub not_refused : (own : List ℕ) {o : Talk Out} → own ≡ first_words what r.words ws → o ≡ begins port what r.words r.pairs own
+  pub not_refused : (own : List ℕ) {o : Talk Out} → own ≡ first_words what r.words ws → o ≡ begins port what r.words r.pairs ws own
       → opening port o ≡ begun port what ws
   not_refused own {o = o} b e =
       let begins_so : o ≡ operation port what ws =
-      e ∙ ap (begins port what r.words r.pairs) b
-      ∙ subst (λ (x : Request). begins port what x.words x.pairs (first_words what x.words ws) ≡ operation port what ws) asks (begins_lem port what ws verdict) in
+      e ∙ ap (begins port what r.words r.pairs ws) b
+      ∙ subst (λ (x : Request). begins port what x.words x.pairs ws (first_words what x.words ws) ≡ operation port what ws) asks (begins_lem port what ws verdict) in
       ap (opening port) begins_so ∙ rw verdict
 
 -- what a conversation says where it stands at a place that is known

@@ -178,8 +178,8 @@ impl Conversation {
         }
     }
 
-    // Begins an operation, with the words that are lent: a command's host block, a list's pairs. No other operation has a use for
-    // any.
+    // Begins an operation, with the words that are lent: a command's host block, a list's pairs, or the windows of a poll of a
+    // minute. No other operation has a use for any.
     #[tactic(auto, using(crate::proofs::Laws::not_refused))]
     pub fn begin(port: Port, what: Operation, block: &[u32]) -> Conversation
         ensures { conv_of result ≡ begun port what block.now }
@@ -189,7 +189,7 @@ impl Conversation {
             Err(e) => Conversation::refused(port, e),
             Ok(()) => {
                 let mut words = lent(what, block, request.words);
-                let first = start(what, port, &mut words, request.words, request.pairs);
+                let first = start(what, port, &mut words, request.words, request.pairs, block);
                 let place = placed(port, &mut words, first);
                 Conversation {
                     port,

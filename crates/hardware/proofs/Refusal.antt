@@ -10,7 +10,7 @@ use Rattle.hardware.specs.Talk.{Res, pick}
 use Rattle.hardware.specs.Refusal.{is_fiber, refusal}
 use Rattle.hardware.specs.declared.Request.{Request}
 use Rattle.hardware.specs.declared.Error.{Error}
-use Rattle.hardware.specs.declared.Error.TheVariants.{Lan, Fiber, Address, KrAddress, Pairs, Block, Pause}
+use Rattle.hardware.specs.declared.Error.TheVariants.{Lan, Fiber, Address, KrAddress, Pairs, Block, Pause, Windows}
 
 pub record Taken (r : Request) : Type 0 where
   pub lan : r.port.lan ≤ 1
@@ -23,6 +23,7 @@ pub record Taken (r : Request) : Type 0 where
   pub pairs : r.pairs ≤ 64
   pub words : r.words ≤ 16
   pub pause : r.port.pause ≤ 100
+  pub windows : r.bad_windows ≡ false
 
 not_both : {A : Type 0} {e : Error} {u : Unit {0}} → ◌≡◌ {A = Res (Unit {0})} (Err e) (Ok u) → A
 not_both h = let z : ◌≡◌ {A = ℕ} 0 1 = cc in absurd (omega arith)
@@ -47,6 +48,7 @@ taken r h =
     let block = passed (ltb 16 r.words) Block list.1 in
     let paused = passed (eqb r.port.pause 0 || ltb 100 r.port.pause) Pause block.1 in
     let pause = neither (eqb r.port.pause 0) (ltb 100 r.port.pause) paused.0 in
+    let windows = passed r.bad_windows Windows paused.1 in
     let pairs = neither (ltb 31 r.phy || ltb 31 r.device) r.outside mdio.0 in
     let addresses = neither (ltb 31 r.phy) (ltb 31 r.device) pairs.0 in
     let registers = neither (ltb 0xffff r.kr) (ltb 0xffff r.selected) kr.0 in
@@ -61,4 +63,5 @@ taken r h =
       pairs = ltb-false _ _ list.0;
       words = ltb-false _ _ block.0;
       pause = ltb-false _ _ pause.1;
+      windows = windows.0;
     }

@@ -1,4 +1,4 @@
--- All numbers of the part, and the values that go with each: document 01's table in its order, 35, 31 and 32 of document 02 where
+-- All numbers of the part, and the values that go with each: document 01's table in its order, 35, 31, 32 and 40 of document 02 where
 -- they are tested, then the calls from C
 use Rattle.std.specs.Prelude.{ℕ, List, [], ◌∷◌}
 use Rattle.hardware.specs.declared.Error.{Error}
@@ -23,6 +23,7 @@ use Rattle.hardware.specs.declared.Error.TheVariants.{
   Pairs,
   Block,
   Pause,
+  Windows,
 }
 
 abbrev pub number : Error → ℕ
@@ -42,6 +43,7 @@ number KrAddress = 35
 number Pairs = 31
 number Block = 23
 number Pause = 32
+number Windows = 40
 
 abbrev pub values : Error → List ℕ
 values (Io code) = code ∷ []
@@ -60,6 +62,7 @@ values KrAddress = []
 values Pairs = []
 values Block = []
 values Pause = []
+values Windows = []
 
 -- how a step or a run stopped. Its values are the conversation, and of 26 and 27 the counts and places to go on from
 abbrev pub stop_number : Stop → ℕ

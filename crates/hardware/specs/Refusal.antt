@@ -1,11 +1,11 @@
--- What `begin` turns away: 20, 21, 22, 35, 31, 23, 32, in this order
+-- What `begin` turns away: 20, 21, 22, 35, 31, 23, 32, 40, in this order
 use Rattle.std.specs.Prelude.{ℕ, Bool, ◌||◌, eqb, ltb, Ok, Err}
 use Rattle.hardware.specs.Talk.{Res, pick}
 use Rattle.hardware.specs.declared.Family.{Family}
 use Rattle.hardware.specs.declared.Family.TheVariants.{X552, X553}
 use Rattle.hardware.specs.declared.Port.{Port}
 use Rattle.hardware.specs.declared.Request.{Request}
-use Rattle.hardware.specs.declared.Error.TheVariants.{Lan, Fiber, Address, KrAddress, Pairs, Block, Pause}
+use Rattle.hardware.specs.declared.Error.TheVariants.{Lan, Fiber, Address, KrAddress, Pairs, Block, Pause, Windows}
 
 abbrev pub fiber_at : Family → ℕ → Bool
 fiber_at X552 device = eqb device 0x15ac
@@ -24,4 +24,5 @@ refusal r =
     (pick (ltb 64 r.pairs) (Err Pairs)
     (pick (ltb 16 r.words) (Err Block)
     (pick (eqb r.port.pause 0 || ltb 100 r.port.pause) (Err Pause)
-    (Ok tt)))))))
+    (pick r.bad_windows (Err Windows)
+    (Ok tt))))))))

@@ -48,6 +48,8 @@ pub struct Request {
     pub selected: u32,
     // the number of words in a command's host block
     pub words: usize,
+    // whether the minute of a poll, or one of the windows lent to it, is none
+    pub bad_windows: bool,
 }
 
 // What the host is asked for: read a register, write a value to one, or wait some microseconds.
@@ -100,6 +102,7 @@ pub enum Error {
     Pairs,
     Block,
     Pause,
+    Windows,
 }
 
 // How a step or a run stopped. Done: a step's action is done, or a run has come to the conversation's end.
@@ -234,7 +237,8 @@ impl Request {
     // The largest address of a KR register.
     const KR_LAST: u32 = 0xffff;
 
-    // What `begin` turns away, looked at in this order: the port, the addresses, a list's pairs, a command's words, the pause.
+    // What `begin` turns away, looked at in this order: the port, the addresses, a list's pairs, a command's words, the pause, a
+    // poll's windows.
     #[tactic(auto, unfolding(crate::specs::Refusal::refusal))]
     pub fn refusal(self) -> Result<(), Error>
         ensures { refusal self ≡ result }
@@ -259,6 +263,9 @@ impl Request {
         }
         if self.port.pause == 0 || self.port.pause > Port::PAUSE_LAST {
             return Err(Error::Pause);
+        }
+        if self.bad_windows {
+            return Err(Error::Windows);
         }
         Ok(())
     }

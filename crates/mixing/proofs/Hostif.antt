@@ -36,10 +36,13 @@ use Rattle.reference.specs.Hostif.{
   activity_words,
   phy_activity,
 }
+use Rattle.reference.specs.Sync.{with_block}
 use Rattle.mixing.specs.Only.{only_end}
 use Rattle.mixing.specs.Model.{kind}
 use Rattle.mixing.specs.Events.{is_ok}
-use Rattle.mixing.proofs.Only.{by_turns, IsFar, far, Quiet, only_then, only_bind, only_pick, only_read, only_raw, only_write, only_wait}
+use Rattle.mixing.proofs.Only.{by_turns, IsFar, far, Quiet, only_then, only_stop, only_bind, only_pick, only_read, only_raw, only_write, only_wait, quiet_only}
+use Rattle.mixing.proofs.Plain.{Plain, plain_held, plain_acquire, plain_release}
+use Rattle.mixing.specs.System.{NotIosf}
 use Rattle.mixing.proofs.Sound.{Sound, well_block, quietly, ends, picks, waits, bind_lent, under, honest_block, bits_bracket}
 
 -- the host block's registers
@@ -115,6 +118,12 @@ module _ (port : Port) where
   unfolding command
   s_command b h = under (bits_bracket port 0x400) (honest_block b) (quietly (q_exchange port.family b h))
 
+  -- it touches no KR access register
+  plain_command : (b : List ℕ) → length b ≤ 16 → Plain port.family (command port b)
+  unfolding command
+  plain_command b h =
+      plain_held port.family (with_block b) (plain_acquire port 0x400) (plain_release port 0x400) (quiet_only NotIosf tt port.family (q_exchange port.family b h))
+
   s_status : (take : Bool) (status : ℕ) → Sound port.family is_ok (token_status take status)
   unfolding token_status
   s_status take status = picks (eqb status 1) ends (picks (eqb status 0x80) (picks take ends ends) ends)
@@ -122,6 +131,12 @@ module _ (port : Port) where
   pub s_token : (take : Bool) → Sound port.family is_ok (token port take)
   unfolding token
   s_token take = bind_lent {k = λ b. token_status take} (s_command (token_block port take) (omega arith)) (λ b. s_status take)
+
+  pub plain_token : (take : Bool) → Plain port.family (token port take)
+  unfolding token token_status
+  plain_token take =
+      only_then (plain_command (token_block port take) (omega arith))
+      (λ p. only_stop (λ status. only_pick (eqb status 1) only_end (only_pick (eqb status 0x80) (only_pick take only_end only_end) only_end)) p.0)
 
   six : (activity d0 d1 d2 d3 : ℕ) → length (activity_block port activity d0 d1 d2 d3) ≤ 16
   unfolding activity_block

@@ -20,6 +20,7 @@ pub mod X552
 pub mod X553
 pub mod Operations
 pub mod Selected
+pub mod Windowed
 pub mod Claim
 pub mod Alone
 pub mod Pairs

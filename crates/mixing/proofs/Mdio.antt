@@ -15,6 +15,7 @@ use Rattle.hardware.specs.declared.Port.{Port}
 use Rattle.answers.specs.declared.Speeds.{Speeds}
 use Rattle.reference.specs.Acquire.{hw_of, locked}
 use Rattle.reference.specs.Mdio.{
+  read_body,
   cycle_turn,
   cycle,
   token_of,
@@ -64,6 +65,9 @@ q_cycle f command =
     (λ again g _. only_ask tt (λ _. only_bind (only_read (far 0x425c tt tt f)) (λ v. only_pick (is_clear v 0x40000000) only_end (g v))))
     (λ last. only_end) 100 0)
 
+pub q_read_body : (f : Family) (a : ℕ) → Quiet f (read_body a)
+q_read_body f a = only_bind (q_cycle f _) (λ _. only_bind (q_cycle f _) (λ _. only_bind (only_raw (far 0x4260 tt tt f)) (λ v. only_end)))
+
 module _ (port : Port) where
   abbrev f : Family
   f = port.family
@@ -71,17 +75,14 @@ module _ (port : Port) where
   held : {A : Type 0} {body : Call A} → Quiet port.family body → Sound port.family is_ok (locked plain port (mask port) body)
   held q = under (token_bracket port (mask port) (has_bits port)) honest_plain (quietly q)
 
-  q_read : (a : ℕ) → Quiet f (read_body a)
-  q_read a = only_bind (q_cycle f _) (λ _. only_bind (q_cycle f _) (λ _. only_bind (only_raw (far 0x4260 tt tt f)) (λ v. only_end)))
-
   pub s_read_reg : (phy dev reg : ℕ) → Sound f is_ok (read_reg port phy dev reg)
   unfolding read_reg
-  s_read_reg phy dev reg = held (q_read _)
+  s_read_reg phy dev reg = held (q_read_body f _)
 
   -- pair by pair
   q_list : (phy : ℕ) (pairs : List (ℕ × ℕ)) (values : List ℕ) → Quiet f (list_body phy pairs values)
   q_list phy [] values = only_end
-  q_list phy ((dev, reg) ∷ rest) values = only_then (only_then (q_read _) (λ r. only_end)) (λ p. go (λ vs. q_list phy rest vs) p.0 p.1)
+  q_list phy ((dev, reg) ∷ rest) values = only_then (only_then (q_read_body f _) (λ r. only_end)) (λ p. go (λ vs. q_list phy rest vs) p.0 p.1)
     where
       go : ((vs : List ℕ) → Quiet f (list_body phy rest vs)) → (r : Res ℕ) (vs : List ℕ) → Quiet f (blk.or_stop (λ v vs. list_body phy rest (vs ++ v ∷ [])) r vs)
       go q (Ok v) vs = q (vs ++ v ∷ [])

@@ -16,6 +16,7 @@ use Rattle.reference.specs.Out.{answer}
 use Rattle.operations.specs.Pairs.{pairs_of}
 use Rattle.operations.specs.Request.{request, refused}
 use Rattle.operations.specs.Operations.{operation}
+use Rattle.operations.specs.Windows.{inside}
 use Rattle.operations.specs.declared.Operation.{Operation}
 use Rattle.operations.specs.declared.Operation.TheVariants as operationv
 use Rattle.mixing.specs.Heeded.{ended_well}
@@ -80,7 +81,7 @@ module _ (port : Port) where
   sound_op (operationv.NvmWord word) ws m h = answers _ (s_nvm port word)
   sound_op operationv.AfterReset ws m h = answers _ (s_after_reset port.family)
   sound_op (operationv.Bringup veto) ws m h = keeps [] (s_bringup veto)
-  sound_op (operationv.Poll w) ws m h = answers _ (s_poll port w.phy w.internal w.forced w.reforced)
+  sound_op (operationv.Poll w minute) ws m h = answers _ (s_poll port (inside minute ws) w.phy w.internal w.forced w.reforced)
 
 -- one that is mixed is not refused
 pub is_ok_lem : (r : Res (Unit {0})) → is_ok r ≡ true → r ≡ Ok tt

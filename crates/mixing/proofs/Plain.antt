@@ -12,6 +12,9 @@ use Rattle.hardware.specs.declared.Port.{Port}
 use Rattle.words.specs.declared.semaphore.Bits.{Bits}
 use Rattle.words.specs.Semaphore.{bits}
 use Rattle.reference.specs.Sync.{
+  Ending,
+  held,
+  held_taken,
   smbi_turn,
   smbi,
   clear,
@@ -32,7 +35,7 @@ use Rattle.reference.specs.Sync.{
 use Rattle.mixing.specs.Only.{Only, only_end, only_ask}
 use Rattle.mixing.specs.Model.{kind, On}
 use Rattle.mixing.specs.System.{NotIosf, Made, done, other}
-use Rattle.mixing.proofs.Only.{by_turns, only_stop, only_bind, only_attempt, only_pick, only_read, only_write, only_wait, quiet_only, quiet_flush}
+use Rattle.mixing.proofs.Only.{by_turns, only_then, only_stop, only_bind, only_attempt, only_pick, only_read, only_write, only_wait, quiet_only, quiet_flush}
 use Rattle.mixing.proofs.Lock.{kind_swsm, kind_sync}
 use Rattle.mixing.proofs.Hold.{quiet_mux}
 
@@ -42,6 +45,15 @@ Plain f t = Only (On NotIosf f) t
 pub made_plain : {A : Type 0} {f : Family} {t : Talk A} → Plain f t → Made f t
 made_plain only_end = done _
 made_plain (only_ask o p) = other o (λ r. made_plain (p r))
+
+-- take, body, give
+pub plain_held : {X : Type 0} (f : Family) (ending : Ending X) {take give : Call (Unit {0})} {body : Talk X}
+    → Plain f take → Plain f give → Plain f body → Plain f (held ending take give body)
+plain_held {X} f ending {give = give} {body = body} t g b = only_then t given
+  where
+    given : (r : Res (Unit {0})) → Plain f (held_taken ending give body r)
+    given (Err e) = only_end
+    given (Ok _) = only_then b (λ x. only_then g (λ r. only_end))
 
 module _ (f : Family) where
   swsm_out : NotIosf (kind f (regs f).swsm)

@@ -64,7 +64,7 @@ module _ (port : Port) where
   bare_addressed (operationv.NvmWord word) ws e = absurd (true≢false e)
   bare_addressed operationv.AfterReset ws e = absurd (true≢false e)
   bare_addressed (operationv.Bringup veto) ws e = absurd (true≢false e)
-  bare_addressed (operationv.Poll w) ws e = absurd (true≢false e)
+  bare_addressed (operationv.Poll w minute) ws e = absurd (true≢false e)
 
   pub addressed : (what : Operation) (ws : List ℕ) → Taken (request port what ws) → Addressed (operation port what ws)
   addressed what ws h = go (mixable what) refl

@@ -34,9 +34,9 @@ use Rattle.mixing.specs.System.{Made, done, other}
 use Rattle.mixing.proofs.Addressed.{plain_addressed}
 use Rattle.mixing.proofs.Heed.{fails_after, heeds_then, heeds_bind}
 use Rattle.mixing.proofs.Hold.{Now, Least, least, plus, minus}
-use Rattle.mixing.proofs.Hostif.{s_token}
+use Rattle.mixing.proofs.Hostif.{s_token, plain_token}
 use Rattle.mixing.proofs.Only.{by_turns, only_bind, only_attempt, only_pick}
-use Rattle.mixing.proofs.Plain.{plain_acquire, plain_release}
+use Rattle.mixing.proofs.Plain.{Plain, plain_acquire, plain_release}
 use Rattle.mixing.proofs.Sound.{Bracket, Took, Gave, EndsIf, bits_bracket, gives_back, gives_back_least, here, made_then}
 use Rattle.mixing.proofs.Wp.{View, Wp, wp_end, wp_ask, wp_then, wp_attempt, wp_mono, wp_pick}
 
@@ -221,50 +221,57 @@ module _ (port : Port) (hw : ℕ) (some_bits : eqb hw 0 ≡ false) where
   unfolding release_rest
   fails_rest e = fails_pick (eqb hw 0) (fails_end refl) (fails_with (release_bits port hw) e)
 
--- ---- what they write, of any mask
+-- ---- of any mask, they touch no KR access register
 
 module _ (port : Port) (hw : ℕ) where
-  module _ {again : Call (Unit {0})} (g : Addressed again) where
-    lost_addressed : (granted : Res Bool) → Addressed (acquire_lost granted again)
+  module _ {again : Call (Unit {0})} (g : Plain port.family again) where
+    plain_lost : (granted : Res Bool) → Plain port.family (acquire_lost granted again)
     unfolding acquire_lost
-    lost_addressed (Ok b) = only_ask tt (λ _. g)
-    lost_addressed (Err e) = only_end
+    plain_lost (Ok b) = only_ask tt (λ _. g)
+    plain_lost (Err e) = only_end
 
-    given_addressed : (granted : Res Bool) → Addressed (acquire_given port hw again granted)
+    plain_given : (granted : Res Bool) → Plain port.family (acquire_given port hw again granted)
     unfolding acquire_given
-    given_addressed granted =
-        only_pick (eqb hw 0) (lost_addressed granted)
-        (only_bind (plain_addressed port.family (plain_release port hw)) (λ _. lost_addressed granted))
+    plain_given granted =
+        only_pick (eqb hw 0) (plain_lost granted)
+        (only_bind (plain_release port hw) (λ _. plain_lost granted))
 
-    got_addressed : (granted : Res Bool) → Addressed (acquire_got port hw again granted)
+    plain_got : (granted : Res Bool) → Plain port.family (acquire_got port hw again granted)
     unfolding acquire_got
-    got_addressed (Ok true) = only_end
-    got_addressed (Ok false) = given_addressed (Ok false)
-    got_addressed (Err e) = given_addressed (Err e)
+    plain_got (Ok true) = only_end
+    plain_got (Ok false) = plain_given (Ok false)
+    plain_got (Err e) = plain_given (Err e)
 
-    ask_addressed : Addressed (acquire_ask port hw again)
+    plain_ask : Plain port.family (acquire_ask port hw again)
     unfolding acquire_ask
-    ask_addressed = only_attempt (s_token port true).addressed got_addressed
+    plain_ask = only_attempt (plain_token port true) plain_got
 
-    turn_addressed : Addressed (acquire_turn port hw again)
-    turn_addressed =
-        only_pick (eqb hw 0) ask_addressed (only_bind (plain_addressed port.family (plain_acquire port hw)) (λ _. ask_addressed))
+    plain_turn : Plain port.family (acquire_turn port hw again)
+    plain_turn =
+        only_pick (eqb hw 0) plain_ask (only_bind (plain_acquire port hw) (λ _. plain_ask))
 
-  rest_addressed : (r : Res (Unit {0})) → Addressed (release_rest port hw r)
+  plain_rest : (r : Res (Unit {0})) → Plain port.family (release_rest port hw r)
   unfolding release_rest
-  rest_addressed r = only_pick (eqb hw 0) only_end (only_bind (plain_addressed port.family (plain_release port hw)) (λ _. only_end))
+  plain_rest r = only_pick (eqb hw 0) only_end (only_bind (plain_release port hw) (λ _. only_end))
 
-pub acquire_addressed : (port : Port) (mask : ℕ) → Addressed (acquire port mask)
+pub plain_take : (port : Port) (mask : ℕ) → Plain port.family (acquire port mask)
 unfolding acquire
-acquire_addressed port mask =
-    only_pick (is_clear mask 0x40000000) (plain_addressed port.family (plain_acquire port (hw_of mask)))
-    (by_turns Addressed (acquire_turn port (hw_of mask)) (fail (Firmware 0x0a 0x80)) (λ again. turn_addressed port (hw_of mask)) only_end 1000)
+plain_take port mask =
+    only_pick (is_clear mask 0x40000000) (plain_acquire port (hw_of mask))
+    (by_turns (Plain port.family) (acquire_turn port (hw_of mask)) (fail (Firmware 0x0a 0x80)) (λ again. plain_turn port (hw_of mask)) only_end 1000)
+
+pub plain_give : (port : Port) (mask : ℕ) → Plain port.family (release port mask)
+unfolding release
+plain_give port mask =
+    only_pick (is_clear mask 0x40000000) (plain_rest port (hw_of mask) (Ok tt))
+    (only_attempt (plain_token port false) (λ given. plain_rest port (hw_of mask) (forget given)))
+
+-- so they write no address to CTRL
+pub acquire_addressed : (port : Port) (mask : ℕ) → Addressed (acquire port mask)
+acquire_addressed port mask = plain_addressed port.family (plain_take port mask)
 
 pub release_addressed : (port : Port) (mask : ℕ) → Addressed (release port mask)
-unfolding release
-release_addressed port mask =
-    only_pick (is_clear mask 0x40000000) (rest_addressed port (hw_of mask) (Ok tt))
-    (only_attempt (s_token port false).addressed (λ given. rest_addressed port (hw_of mask) (forget given)))
+release_addressed port mask = plain_addressed port.family (plain_give port mask)
 
 pub token_bracket : (port : Port) (mask : ℕ) → eqb (hw_of mask) 0 ≡ false → Bracket port.family (software (hw_of mask)) (acquire port mask) (release port mask)
 unfolding acquire release

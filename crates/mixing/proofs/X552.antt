@@ -10,13 +10,13 @@ use Rattle.hardware.specs.declared.Family.{Family}
 use Rattle.hardware.specs.declared.Family.TheVariants.{X552, X553}
 use Rattle.hardware.specs.declared.Port.{Port}
 use Rattle.words.specs.Kr.{krm}
-use Rattle.words.specs.Link as words
 use Rattle.answers.specs.declared.Internal.{Internal}
 use Rattle.answers.specs.declared.Internal.TheVariants.{Ixfi, Kr}
 use Rattle.answers.specs.declared.Speeds.{Speeds}
 use Rattle.answers.specs.declared.X557.{X557}
 use Rattle.reference.specs.Mdio.{changed}
-use Rattle.reference.specs.Watch.{is_forced, poll_force, poll_speed, poll}
+use Rattle.reference.specs.Watch.{poll_force}
+use Rattle.reference.specs.Window.{Due, nothing as nothing_due, force, due, settle, window_poll}
 use Rattle.reference.specs.X552.{
   kr_modify,
   restart_lane,
@@ -178,16 +178,18 @@ module _ (port : Port) where
   s_force reforced status megabits Kr = bind (s_autoneg true true) (λ _. ends)
   s_force reforced status megabits Ixfi = bind (s_ixfi (eqb megabits 10000)) (λ _. ends)
 
-  s_speed : (internal : Internal) (forced : Option ℕ) (reforced status : ℕ) (m : Option ℕ)
-      → Sound port.family is_ok (poll_speed port.pause port internal forced reforced status m)
-  s_speed internal forced reforced status None = ends
-  s_speed internal forced reforced status (Some megabits) = picks (is_forced forced status) ends (s_force reforced status megabits internal)
-
-  pub s_poll : (phy : ℕ) (internal : Internal) (forced : Option ℕ) (reforced : ℕ) → Sound port.family is_ok (poll port.pause port phy internal forced reforced)
-  unfolding poll
-  s_poll phy internal forced reforced =
+  s_due : (phy : ℕ) (forced : Option ℕ) (reforced : ℕ) → Sound port.family is_ok (due port phy forced reforced)
+  unfolding due
+  s_due phy forced reforced =
       bind (s_an_link port phy)
-      (λ up. picks up
-      (bind (s_read_reg port phy 7 0xc800)
-      (λ v. bind (s_an_link port phy) (λ up. picks up (s_speed internal forced reforced (v % 8) (words.copper (v % 8))) ends)))
-      ends)
+      (λ up. picks up (bind (s_read_reg port phy 7 0xc800) (λ v. bind (s_an_link port phy) (λ up. ends))) ends)
+
+  s_settle : (inside : Bool) (internal : Internal) (forced : Option ℕ) (reforced : ℕ) (d : Due)
+      → Sound port.family is_ok (settle inside port.pause port internal forced reforced d)
+  s_settle inside internal forced reforced (nothing_due p) = ends
+  s_settle inside internal forced reforced (force status megabits) = picks inside ends (s_force reforced status megabits internal)
+
+  pub s_poll : (inside : Bool) (phy : ℕ) (internal : Internal) (forced : Option ℕ) (reforced : ℕ)
+      → Sound port.family is_ok (window_poll inside port.pause port phy internal forced reforced)
+  unfolding window_poll
+  s_poll inside phy internal forced reforced = bind (s_due phy forced reforced) (s_settle inside internal forced reforced)

@@ -8,6 +8,7 @@ pub mod Alone
 pub mod Conversations
 pub mod Only
 pub mod Addressed
+pub mod Windowed
 pub mod Tie
 pub mod Rule
 pub mod Turns

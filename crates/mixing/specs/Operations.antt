@@ -12,7 +12,7 @@ mixable (operationv.Acquire mask) = false
 mixable (operationv.Release mask) = false
 mixable _ = true
 
--- a call of `begin`, beside the port's lan: device id, pause, operation with its arguments, host block
+-- a call of `begin`, beside the port's lan: device id, pause, operation with its arguments, the words that are lent
 pub record Asked : Type 0 where
   pub device : ℕ
   pub pause : ℕ

@@ -18,6 +18,7 @@ use Rattle.reference.specs.Out.{answer}
 use Rattle.operations.specs.Operations.{operation_with, operation}
 use Rattle.operations.specs.Pairs.{pairs_of}
 use Rattle.operations.specs.Request.{request}
+use Rattle.operations.specs.Windows.{inside}
 use Rattle.operations.specs.declared.Operation.{Operation}
 use Rattle.operations.specs.declared.Operation.TheVariants as operationv
 use Rattle.operations.specs.Bounds.{actions, micros}
@@ -38,7 +39,7 @@ use Rattle.reference.proofs.Bounds.Mdio.{
 }
 use Rattle.reference.proofs.Bounds.X552.{of_kr_read, of_kr_write, of_kr_modify, of_restart, of_autoneg, of_nvm, of_prepare_copper}
 use Rattle.reference.proofs.Bounds.X552 as bound552
-use Rattle.reference.proofs.Bounds.X553.{of_poll}
+use Rattle.reference.proofs.Bounds.X553.{of_window_poll}
 use Rattle.reference.proofs.Bounds.X553 as bound553
 
 of_answer : {A : Type 0} (f : A → Value) {t : Call A} {n m : ℕ} → Within t n m → Within (answer f t) n m
@@ -98,7 +99,8 @@ module _ (pause : ℕ) (short : pause ≤ 100) (port : Port) where
   operation_with_lem (operationv.NvmWord word) ws = of_answer _ (of_nvm port word)
   operation_with_lem operationv.AfterReset ws = of_answer _ (of_after_reset port port.family)
   operation_with_lem (operationv.Bringup veto) ws = of_keep [] (of_bringup veto)
-  operation_with_lem (operationv.Poll w) ws = of_answer _ (of_poll pause short port w.phy w.internal w.forced w.reforced)
+  operation_with_lem (operationv.Poll w minute) ws =
+      of_answer _ (of_window_poll pause short port (inside minute ws) w.phy w.internal w.forced w.reforced)
 
 pub operation_within : (port : Port) (what : Operation) (ws : List ℕ) → port.pause ≤ 100 → Within (operation port what ws) (actions what ws) (micros what ws)
 operation_within port what ws short = operation_with_lem port.pause short port what ws
@@ -135,4 +137,4 @@ operation_fits port (operationv.KrAutoneg kr kx) ws h k = record { of_actions = 
 operation_fits port (operationv.NvmWord word) ws h k = record { of_actions = omega arith; of_micros = omega arith }
 operation_fits port operationv.AfterReset ws h k = record { of_actions = omega arith; of_micros = omega arith }
 operation_fits port (operationv.Bringup veto) ws h k = record { of_actions = omega arith; of_micros = omega arith }
-operation_fits port (operationv.Poll w) ws h k = record { of_actions = omega arith; of_micros = omega arith }
+operation_fits port (operationv.Poll w minute) ws h k = record { of_actions = omega arith; of_micros = omega arith }

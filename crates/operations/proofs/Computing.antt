@@ -15,6 +15,7 @@ use Rattle.reference.specs.Hostif as hostif
 use Rattle.reference.specs.Mdio as mdio
 use Rattle.reference.specs.Sync as sync
 use Rattle.reference.specs.Watch as watch
+use Rattle.reference.specs.Window as window
 use Rattle.reference.specs.X552 as x552
 use Rattle.reference.specs.X553 as x553
 
@@ -54,5 +55,5 @@ bringup_computing = tt
 
 unfoldable pub computing : ⊤
 unfolding linked words_computing sync_computing hostif_computing acquire_computing mdio_computing kr_computing bringup_computing
-    watch.is_forced watch.poll
+    watch.is_forced window.due window.window_poll
 computing = tt

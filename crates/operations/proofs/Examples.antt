@@ -1,5 +1,5 @@
 -- Worked examples: what an operation ends with, and after how many actions and microseconds
-use Rattle.std.specs.Prelude.{ℕ, Ok, Err, Some, None}
+use Rattle.std.specs.Prelude.{ℕ, map, Ok, Err, Some, None}
 use mathlib.Core.Path.{◌≡◌, refl}
 use mathlib.Core.Bool.{Bool, true, false}
 use mathlib.Core.List.{List, [], ◌∷◌, ◌++◌}
@@ -17,6 +17,7 @@ use Rattle.answers.specs.declared.Value.TheVariants as valuev
 use Rattle.reference.specs.Out.{answer}
 use Rattle.reference.specs.X553.{sgmii_an}
 use Rattle.operations.specs.Operations.{operation}
+use Rattle.operations.specs.Windows.{inside}
 use Rattle.operations.specs.declared.Operation.{Operation}
 use Rattle.operations.specs.declared.Operation.TheVariants.{
   Veto,
@@ -533,7 +534,7 @@ firmware_hot = refl
 
 -- the Watch. PHY 3, forced for 10 gigabits so many times
 abbrev poll : Internal → ℕ → Operation
-poll internal reforced = Poll (record { phy = 3; internal = internal; forced = Some 7; reforced = reforced })
+poll internal reforced = Poll (record { phy = 3; internal = internal; forced = Some 7; reforced = reforced }) None
 
 -- down: the forced status is forgotten
 polled_down : of (operation at552 (poll Kr 2) []) (copies 2 (phy_read 0)) ≡ ended 52 60 (Ok (valuev.Poll copperv.Down None 2), [])
@@ -569,3 +570,53 @@ polled_failed : of (operation at552 (poll Kr 2) []) (phy_linked ++ phy_read 5 ++
     ≡ ended 131 150 (Err (Io 9), [])
 unfolding computing
 polled_failed = refl
+
+-- the same Watch inside a window, of a minute that it begins with; beside one that has gone by
+abbrev in_window : Internal → Operation
+in_window internal = Poll (record { phy = 3; internal = internal; forced = Some 7; reforced = 2 }) (Some 600)
+
+abbrev windows : List ℕ
+windows = 60 ∷ 120 ∷ 600 ∷ 601 ∷ []
+
+-- 1 gigabit now: held, before the first action of `kr_autoneg` or `ixfi`
+held_kr : of (operation at552 (in_window Kr) windows) (phy_linked ++ phy_read 5 ++ phy_linked)
+    ≡ ended 130 150 (Ok (valuev.Poll (copperv.Held 1000) (Some 7) 2), [])
+unfolding computing
+held_kr = refl
+
+held_ixfi : of (operation at552 (in_window Ixfi) windows) (phy_linked ++ phy_read 5 ++ phy_linked)
+    ≡ ended 130 150 (Ok (valuev.Poll (copperv.Held 1000) (Some 7) 2), [])
+unfolding computing
+held_ixfi = refl
+
+-- nothing is due: up as it was
+held_same : of (operation at552 (in_window Kr) windows) (phy_linked ++ phy_read 7 ++ phy_linked)
+    ≡ ended 130 150 (Ok (valuev.Poll (copperv.Up 10000) (Some 7) 2), [])
+unfolding computing
+held_same = refl
+
+-- down, inside a window too: the forced status is forgotten
+held_down : of (operation at552 (in_window Kr) windows) (copies 2 (phy_read 0)) ≡ ended 52 60 (Ok (valuev.Poll copperv.Down None 2), [])
+unfolding computing
+held_down = refl
+
+-- outside all windows it is forced: one ends with this minute excluded, one starts behind it and runs to it
+forced_outside : of (operation at552 (in_window Kr) (0 ∷ 600 ∷ 601 ∷ 600 ∷ [])) (phy_linked ++ phy_read 5 ++ phy_linked ++ copies 2 (kr_changed 0))
+    ≡ ended 222 190 (Ok (valuev.Poll (copperv.Up 1000) (Some 5) 3), [])
+unfolding computing
+forced_outside = refl
+
+-- a window over the end of the week, from Sunday 23:50 to Monday 00:05, at both edges
+over_the_end : map (λ m. inside (Some m) (10070 ∷ 5 ∷ [])) (10069 ∷ 10070 ∷ 10079 ∷ 0 ∷ 4 ∷ 5 ∷ []) ≡ false ∷ true ∷ true ∷ true ∷ true ∷ false ∷ []
+over_the_end = refl
+
+-- one of a minute; two that touch; none
+of_a_minute : map (λ m. inside (Some m) (60 ∷ 61 ∷ [])) (59 ∷ 60 ∷ 61 ∷ []) ≡ false ∷ true ∷ false ∷ []
+of_a_minute = refl
+
+that_touch : map (λ m. inside (Some m) (60 ∷ 62 ∷ 62 ∷ 64 ∷ [])) (59 ∷ 60 ∷ 61 ∷ 62 ∷ 63 ∷ 64 ∷ [])
+    ≡ false ∷ true ∷ true ∷ true ∷ true ∷ false ∷ []
+that_touch = refl
+
+of_none : (m : ℕ) → inside (Some m) [] ≡ false
+of_none m = refl

@@ -19,6 +19,7 @@ use Rattle.operations.specs.Pairs.{pairs_of}
 use Rattle.operations.specs.Request.{request, refused}
 use Rattle.operations.proofs.Computing.{computing}
 use Rattle.hardware.specs.Refusal.{refusal}
+use Rattle.operations.specs.Windows.{inside}
 use Rattle.operations.specs.declared.Operation.{Operation}
 use Rattle.operations.specs.declared.Operation.TheVariants as operationv
 use Rattle.reference.proofs.Alike.{Same, Still, at_end, alike_paced, ends, bind, picks, reads, keeps, lends}
@@ -26,7 +27,7 @@ use Rattle.reference.proofs.Pauses.Hostif.{of_command, of_token, of_activity}
 use Rattle.reference.proofs.Pauses.Acquire.{of_acquire, of_release}
 use Rattle.reference.proofs.Pauses.Mdio.{of_read_reg, of_list, of_write_reg, of_modify, of_probe, of_scan, of_reset, of_abilities, of_advertise, of_an_link}
 use Rattle.reference.proofs.Pauses.X552.{of_kr_read, of_kr_write, of_kr_modify, of_restart, of_autoneg, of_nvm}
-use Rattle.reference.proofs.Pauses.X553.{of_family_reset, of_bringup, of_poll}
+use Rattle.reference.proofs.Pauses.X553.{of_family_reset, of_bringup, of_window_poll}
 
 module _ {p q : ℕ} where
   of_answer : {A : Type 0} (f : A → Value) {t t' : Call A} → Same p q t t' → Same p q (answer f t) (answer f t')
@@ -63,7 +64,7 @@ module _ (p q : ℕ) (port : Port) where
   alike (operationv.NvmWord word) ws = of_answer _ (of_nvm port word)
   alike operationv.AfterReset ws = of_answer _ (of_family_reset port port.family)
   alike (operationv.Bringup veto) ws = keeps [] (of_bringup p q port veto)
-  alike (operationv.Poll w) ws = of_answer _ (of_poll p q port w.phy w.internal w.forced w.reforced)
+  alike (operationv.Poll w minute) ws = of_answer _ (of_window_poll p q port (inside minute ws) w.phy w.internal w.forced w.reforced)
 
 pub operation_paced : (p q : ℕ) (port : Port) (what : Operation) (ws : List ℕ)
     → paced p false (operation_with q port what ws) ≡ operation_with p port what ws
@@ -103,4 +104,4 @@ module _ (p : ℕ) (port : Port) (h : (eqb p 0 || ltb 100 p) ≡ false) (k : (eq
   same_else (operationv.NvmWord word) ws = (refl, rw (h, k) refl)
   same_else operationv.AfterReset ws = (refl, rw (h, k) refl)
   same_else (operationv.Bringup veto) ws = (refl, rw (h, k) refl)
-  same_else (operationv.Poll w) ws = (refl, rw (h, k) refl)
+  same_else (operationv.Poll w minute) ws = (refl, rw (h, k) refl)

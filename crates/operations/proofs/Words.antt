@@ -38,7 +38,7 @@ words_lent port (operationv.KrAutoneg kr kx) ws = omega arith
 words_lent port (operationv.NvmWord word) ws = omega arith
 words_lent port operationv.AfterReset ws = omega arith
 words_lent port (operationv.Bringup veto) ws = omega arith
-words_lent port (operationv.Poll w) ws = omega arith
+words_lent port (operationv.Poll w minute) ws = omega arith
 
 pub request_port : (port : Port) (what : Operation) (ws : List ℕ) → (request port what ws).port ≡ port
 unfolding request
@@ -67,4 +67,4 @@ request_port port (operationv.KrAutoneg kr kx) ws = refl
 request_port port (operationv.NvmWord word) ws = refl
 request_port port operationv.AfterReset ws = refl
 request_port port (operationv.Bringup veto) ws = refl
-request_port port (operationv.Poll w) ws = refl
+request_port port (operationv.Poll w minute) ws = refl

@@ -32,7 +32,7 @@ most (operationv.KrAutoneg kr kx) ws = (64171328, 1641776000)
 most (operationv.NvmWord word) ws = (8121023, 205702000)
 most operationv.AfterReset ws = (2, 0)
 most (operationv.Bringup veto) ws = (3843866921385, 97848224736060)
-most (operationv.Poll w) ws = (80863447334, 2058447638000)
+most (operationv.Poll w minute) ws = (80863447334, 2058447638000)
 
 abbrev pub actions : Operation → List ℕ → ℕ
 actions what ws = (most what ws).0

@@ -11,9 +11,10 @@ use Rattle.reference.specs.Hardware as hardware
 use Rattle.reference.specs.Hostif as hostif
 use Rattle.reference.specs.Mdio as mdio
 use Rattle.reference.specs.Out.{Out, answer, nothing, poll_value}
-use Rattle.reference.specs.Watch as watch
+use Rattle.reference.specs.Window.{window_poll}
 use Rattle.reference.specs.X552 as x552
 use Rattle.operations.specs.Pairs.{pairs_of}
+use Rattle.operations.specs.Windows.{inside}
 use Rattle.operations.specs.declared.Operation.{Operation}
 use Rattle.operations.specs.declared.Operation.TheVariants as operationv
 
@@ -22,8 +23,8 @@ abbrev pub list_operation : Port → ℕ → List (ℕ × ℕ) → Talk Out
 list_operation port phy pairs =
     blk.◌>>=◌ (λ _. mdio.mdio_list port phy pairs) (λ _. blk.return (valuev.List (length pairs))) []
 
--- `pause`: the microseconds of the sideband's wait; `ws`: the words that are lent, the host block of a `command` or the pairs of an
--- `mdio_list`; no other operation makes use of any
+-- `pause`: the microseconds of the sideband's wait; `ws`: the words that are lent, the host block of a `command`, the pairs of an
+-- `mdio_list` or the windows of a `poll`; no other operation makes use of any
 abbrev pub operation_with : ℕ → Port → Operation → List ℕ → Talk Out
 operation_with pause port operationv.Veto ws = answer valuev.Flag hardware.veto
 operation_with pause port operationv.Link ws = answer valuev.Link (hardware.link port.family)
@@ -54,7 +55,8 @@ operation_with pause port (operationv.KrAutoneg kr kx) ws = answer valuev.Word (
 operation_with pause port (operationv.NvmWord word) ws = answer valuev.Word (x552.nvm_word port word)
 operation_with pause port operationv.AfterReset ws = answer nothing (after_reset port port.family)
 operation_with pause port (operationv.Bringup veto) ws = keep (bringup pause port veto) []
-operation_with pause port (operationv.Poll w) ws = answer poll_value (watch.poll pause port w.phy w.internal w.forced w.reforced)
+operation_with pause port (operationv.Poll w minute) ws =
+    answer poll_value (window_poll (inside minute ws) pause port w.phy w.internal w.forced w.reforced)
 
 -- with the port's own pause; the Rust's is 10
 abbrev pub operation : Port → Operation → List ℕ → Talk Out

@@ -2,11 +2,13 @@
 #![tactic(auto)]
 
 pub mod pairs;
+pub mod windows;
 
 ghost use Rattle.std.specs.Prelude.{◌≡◌};
-ghost use Rattle.operations.specs.Request.{at_port, at_phy, at_kr, at_list, request, refused};
+ghost use Rattle.operations.specs.Request.{at_port, at_phy, at_kr, at_list, at_poll, request, refused};
 
 use crate::pairs::{count, is_outside};
+use crate::windows::are_bad;
 use arguments::{Advertised, Asked, Change, Register, Watch};
 use hardware::{Error, Port, Request};
 use words::kr_address::krm;
@@ -55,7 +57,8 @@ pub enum Operation {
     AfterReset,
     // veto
     Bringup(bool),
-    Poll(Watch),
+    // the minute of the week, which is judged by the windows that are lent; without one there is no window
+    Poll(Watch, Option<u32>),
 }
 
 // A request of a port with nothing else that may be turned away.
@@ -71,6 +74,7 @@ fn at_port(port: Port) -> Request
         kr: 0,
         selected: 0,
         words: 0,
+        bad_windows: false,
     }
 }
 
@@ -108,6 +112,16 @@ fn at_list(port: Port, phy: u32, words: &[u32]) -> Request
     }
 }
 
+// With a PHY's address, and whether a minute and windows are what they may not be.
+fn at_poll(port: Port, phy: u32, bad_windows: bool) -> Request
+    ensures { at_poll port phy bad_windows ≡ result }
+{
+    Request {
+        bad_windows,
+        ..at_phy(port, phy, 0)
+    }
+}
+
 impl Operation {
     // What a call of `begin` with these lent words asks for.
     #[tactic(auto, unfolding(crate::specs::Request::request))]
@@ -131,12 +145,12 @@ impl Operation {
             Operation::KrRead(address) => at_kr(port, address, address),
             Operation::KrWrite(address, _) => at_kr(port, address, address),
             Operation::KrModify(c) => at_kr(port, c.port0, krm(port.lan, c.port0)),
-            Operation::Poll(watch) => at_phy(port, watch.phy, 0),
+            Operation::Poll(watch, minute) => at_poll(port, watch.phy, are_bad(minute, block)),
             _ => at_port(port),
         }
     }
 
-    // Whether the call is turned away: 20, 21, 22, 35, 31, 23 or 32.
+    // Whether the call is turned away: 20, 21, 22, 35, 31, 23, 32 or 40.
     pub fn refused(self, port: Port, block: &[u32]) -> Result<(), Error>
         ensures { refused port self block.now ≡ result }
     {

@@ -60,7 +60,7 @@ words_after (afterv.Activity asked activity) = 9 ∷ asked.activity ∷ asked.«
 words_after (afterv.Mdio mdio) = 10 ∷ (words_mdio mdio) ++ (replicate 8 0)
 words_after (afterv.Kr kr) = 11 ∷ (words_kr kr) ++ (replicate 11 0)
 words_after (afterv.Bringup x bringup) = 12 ∷ (flag_of x) ∷ words_bringup bringup
-words_after (afterv.Poll watch poll) = 13 ∷ watch.phy ∷ watch.reforced ∷ (words_internal watch.internal) ++ ((words_option 1 words_word watch.forced) ++ ((words_poll poll) ++ (replicate 4 0)))
+words_after (afterv.Poll windowed poll) = 13 ∷ windowed.watch.phy ∷ windowed.watch.reforced ∷ (flag_of windowed.inside) ∷ (words_internal windowed.watch.internal) ++ ((words_option 1 words_word windowed.watch.forced) ++ ((words_poll poll) ++ (replicate 3 0)))
 
 unfoldable pub get_after : List ℕ → After
 get_after s =
@@ -76,4 +76,4 @@ get_after s =
     pick (eqb (word_at s 0) 10) (afterv.Mdio (get_mdio (drop 1 s))) (
     pick (eqb (word_at s 0) 11) (afterv.Kr (get_kr (drop 1 s))) (
     pick (eqb (word_at s 0) 12) (afterv.Bringup (is (word_at s 1)) (get_bringup (drop 2 s))) (
-    afterv.Poll (record { phy = (word_at s 1); internal = (get_internal (drop 3 s)); forced = (get_option get_half (drop 4 s)); reforced = (word_at s 2) }) (get_poll (drop 2 (drop 4 s)))))))))))))))
+    afterv.Poll (record { watch = (record { phy = (word_at s 1); internal = (get_internal (drop 4 s)); forced = (get_option get_half (drop 5 s)); reforced = (word_at s 2) }); inside = (is (word_at s 3)) }) (get_poll (drop 2 (drop 5 s)))))))))))))))

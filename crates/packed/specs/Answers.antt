@@ -66,12 +66,14 @@ unfoldable pub words_copper : Copper → List ℕ
 words_copper copperv.Down = 1 ∷ 0 ∷ []
 words_copper (copperv.Up megabits) = 2 ∷ megabits ∷ []
 words_copper (copperv.Invalid status) = 3 ∷ status ∷ []
+words_copper (copperv.Held megabits) = 4 ∷ megabits ∷ []
 
 unfoldable pub get_copper : List ℕ → Copper
 get_copper s =
     pick (eqb (word_at s 0) 1) (copperv.Down) (
     pick (eqb (word_at s 0) 2) (copperv.Up (word_at s 1)) (
-    copperv.Invalid (word_at s 1 % 65536)))
+    pick (eqb (word_at s 0) 3) (copperv.Invalid (word_at s 1 % 65536)) (
+    copperv.Held (word_at s 1))))
 
 -- 13 words
 unfoldable pub words_value : Value → List ℕ

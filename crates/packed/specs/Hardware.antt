@@ -27,6 +27,7 @@ words_error errorv.KrAddress = 13 ∷ replicate 4 0
 words_error errorv.Pairs = 14 ∷ replicate 4 0
 words_error errorv.Block = 15 ∷ replicate 4 0
 words_error errorv.Pause = 16 ∷ replicate 4 0
+words_error errorv.Windows = 17 ∷ replicate 4 0
 
 unfoldable pub get_error : List ℕ → Error
 get_error s =
@@ -45,7 +46,8 @@ get_error s =
     pick (eqb (word_at s 0) 13) (errorv.KrAddress) (
     pick (eqb (word_at s 0) 14) (errorv.Pairs) (
     pick (eqb (word_at s 0) 15) (errorv.Block) (
-    errorv.Pause)))))))))))))))
+    pick (eqb (word_at s 0) 16) (errorv.Pause) (
+    errorv.Windows))))))))))))))))
 
 -- 1 words
 unfoldable pub words_family : Family → List ℕ

@@ -9,7 +9,7 @@ use after::After;
 use after::kr_registers::Kr;
 use after::registers::Mdio;
 use answers::{Internal, Speeds, Words};
-use arguments::{Advertised, Asked, Change, Register, Watch};
+use arguments::{Advertised, Asked, Change, Register, Watch, Windowed};
 use bringup::Bringup;
 use kr::modify::KrModify;
 use kr::sequence::{KrPlace, Sequence};
@@ -255,14 +255,15 @@ impl Packed for After {
                 let at = flag(tape, at, x);
                 bringup.put(tape, at)
             },
-            After::Poll(watch, poll) => {
+            After::Poll(windowed, poll) => {
                 let at = word(tape, at, 13);
-                let at = word(tape, at, watch.phy);
-                let at = word(tape, at, watch.reforced);
-                let at = watch.internal.put(tape, at);
-                let at = watch.forced.put(tape, at);
+                let at = word(tape, at, windowed.watch.phy);
+                let at = word(tape, at, windowed.watch.reforced);
+                let at = flag(tape, at, windowed.inside);
+                let at = windowed.watch.internal.put(tape, at);
+                let at = windowed.watch.forced.put(tape, at);
                 let at = poll.put(tape, at);
-                zeros(tape, at, 4)
+                zeros(tape, at, 3)
             },
         }
     }
@@ -310,13 +311,16 @@ impl Packed for After {
             )
         } else {
             After::Poll(
-                Watch {
-                    phy: word_at(tape, at, 1),
-                    internal: Internal::get(tape, after(tape, at, 3)),
-                    forced: Option::get(tape, after(tape, at, 4)),
-                    reforced: word_at(tape, at, 2),
+                Windowed {
+                    watch: Watch {
+                        phy: word_at(tape, at, 1),
+                        internal: Internal::get(tape, after(tape, at, 4)),
+                        forced: Option::get(tape, after(tape, at, 5)),
+                        reforced: word_at(tape, at, 2),
+                    },
+                    inside: is(word_at(tape, at, 3)),
                 },
-                Poll::get(tape, after(tape, after(tape, at, 4), 2)),
+                Poll::get(tape, after(tape, after(tape, at, 5), 2)),
             )
         }
     }

@@ -213,6 +213,10 @@ impl Packed for Copper {
                 let at = word(tape, at, 3);
                 word(tape, at, wide(status))
             },
+            Copper::Held { megabits } => {
+                let at = word(tape, at, 4);
+                word(tape, at, megabits)
+            },
         }
     }
 
@@ -225,9 +229,13 @@ impl Packed for Copper {
             Copper::Up {
                 megabits: word_at(tape, at, 1),
             }
-        } else {
+        } else if kind == 3 {
             Copper::Invalid {
                 status: half(word_at(tape, at, 1)),
+            }
+        } else {
+            Copper::Held {
+                megabits: word_at(tape, at, 1),
             }
         }
     }

@@ -93,6 +93,10 @@ impl Packed for Error {
                 let at = word(tape, at, 16);
                 zeros(tape, at, 4)
             },
+            Error::Windows => {
+                let at = word(tape, at, 17);
+                zeros(tape, at, 4)
+            },
         }
     }
 
@@ -144,8 +148,10 @@ impl Packed for Error {
             Error::Pairs
         } else if kind == 15 {
             Error::Block
-        } else {
+        } else if kind == 16 {
             Error::Pause
+        } else {
+            Error::Windows
         }
     }
 }

@@ -5,5 +5,6 @@ pub mod Prepare
 pub mod Closures
 pub mod Within
 pub mod Bounds
+pub mod Window
 pub mod Alike
 pub mod Pauses

@@ -6,6 +6,7 @@ pub mod Mdio
 pub mod X552
 pub mod X553
 pub mod Watch
+pub mod Window
 pub mod Out
 pub mod Bringup
 pub mod Closures

@@ -16,7 +16,9 @@ abbrev pub told_first : Port → List ℕ → First → Talk Out
 told_first port b (first.Access step) = and_then (told_access b step) (λ p. after_nothing p.0)
 told_first port b (first.After step) = told_after port b step
 
--- the operation, on the words that stand in the block: a list has its pairs behind the 16 of the host block, a command its first
-unfoldable pub begins : Port → Operation → (words pairs : ℕ) → List ℕ → Talk Out
-begins port (operationv.MdioList phy) words pairs b = list_operation port phy (pairs_in (take pairs (list_of b)))
-begins port what words pairs b = operation port what (take words b)
+-- the operation, on the words that stand in the block: a list has its pairs behind the 16 of the host block, a command its first. A
+-- poll has its windows as they are lent
+unfoldable pub begins : Port → Operation → (words pairs : ℕ) → (windows block : List ℕ) → Talk Out
+begins port (operationv.MdioList phy) words pairs ws b = list_operation port phy (pairs_in (take pairs (list_of b)))
+begins port (operationv.Poll w minute) words pairs ws b = operation port (operationv.Poll w minute) ws
+begins port what words pairs ws b = operation port what (take words b)

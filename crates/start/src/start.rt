@@ -12,7 +12,7 @@ use after::After;
 use after::kr_registers::Kr;
 use after::registers::Mdio;
 use answers::Value;
-use arguments::{Advertised, Asked, Change, Register, Watch};
+use arguments::{Advertised, Asked, Change, Register, Watch, Windowed};
 use bringup::Bringup;
 use hardware::{Action, Managed, Port, Step};
 use jobs::job::{Ended, Job};
@@ -20,6 +20,7 @@ use jobs::token::Token;
 use kr::modify::KrModify;
 use kr::sequence::{KrPlace, Sequence};
 use operations::Operation;
+use operations::windows::inside;
 use phy::advertise::Advertise;
 use phy::an_link::AnLink;
 use phy::modify::Modify;
@@ -212,14 +213,23 @@ fn bringup(port: Port, veto: bool, block: &mut [u32; 80]) -> Step<Job, After, En
     After::bringup(managed, step)
 }
 
-fn poll(port: Port, watch: Watch) -> Step<Job, After, Ended<Value>>
-    ensures { (b : List ℕ) → told_after port b result ≡ operation port (ops.Poll watch) [] }
+// The windows are judged here, and not kept.
+fn poll(
+    port: Port,
+    watch: Watch,
+    minute: Option<u32>,
+    windows: &[u32],
+) -> Step<Job, After, Ended<Value>>
+    ensures { (b : List ℕ) → told_after port b result ≡ operation port (ops.Poll watch minute) windows.now }
 {
-    let step = Poll::start(watch, port);
-    After::poll(port, watch, step)
+    let inside = inside(minute, windows);
+    let asked = Windowed { watch, inside };
+    let step = Poll::start(asked, port);
+    After::poll(port, asked, step)
 }
 
-// `words`: how many of the block are a command's, the first; `pairs`: how many a list has, behind them.
+// `words`: how many of the block are a command's, the first; `pairs`: how many a list has, behind them; `windows`: the words as they
+// are lent, for a poll.
 #[tactic(auto, using(hardware::proofs::Laws::then_assoc, after::proofs::Laws::nothing_begun), unfolding(crate::specs::First::begins))]
 pub fn start(
     what: Operation,
@@ -227,8 +237,9 @@ pub fn start(
     block: &mut [u32; 80],
     words: usize,
     pairs: usize,
+    windows: &[u32],
 ) -> First
-    ensures { told_first port block.new result ≡ begins port what words pairs block.old }
+    ensures { told_first port block.new result ≡ begins port what words pairs windows.now block.old }
 {
     match what {
         Operation::Veto => First::After(Step::Ask(Job::Read(Port::MMNGC), After::Veto)),
@@ -256,6 +267,6 @@ pub fn start(
         Operation::NvmWord(word) => First::After(nvm_word(port, word)),
         Operation::AfterReset => First::After(after_reset(port)),
         Operation::Bringup(veto) => First::After(bringup(port, veto, block)),
-        Operation::Poll(watch) => First::After(poll(port, watch)),
+        Operation::Poll(watch, minute) => First::After(poll(port, watch, minute, windows)),
     }
 }

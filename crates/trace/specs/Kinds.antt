@@ -4,12 +4,11 @@ use Rattle.std.specs.Option.{option_and_then, option_map}
 use Rattle.hardware.specs.Talk.{pick}
 use Rattle.operations.specs.declared.Operation.{Operation}
 
--- the operation that a line names, and how many of the argument words are its host block
+-- the operation that a line names, and how many of the argument words, the last, are lent to it: a host block, or windows
 abbrev pub Line : Type 0
 Line = Option (Operation × ℕ)
 
--- Arguments are taken one by one from the values of the words behind the name. At the end no word is left, and none of them
--- was a host block's
+-- Arguments are taken one by one from the values of the words behind the name. At the end no word is left, and none is lent
 unfoldable pub no_more : Operation → List ℕ → Line
 no_more what [] = Some (what, 0)
 no_more what (v ∷ vs) = None

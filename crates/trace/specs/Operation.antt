@@ -1,5 +1,5 @@
 -- The operation line: a name, then argument words
-use Rattle.std.specs.Prelude.{ℕ, List, [], ◌∷◌, length, take, drop, Some, None}
+use Rattle.std.specs.Prelude.{ℕ, ◌-◌, leb, List, [], ◌∷◌, length, take, Option, Some, None}
 use Rattle.hardware.specs.Talk.{pick}
 use Rattle.text.specs.Same.{same}
 use Rattle.arguments.specs.declared.Asked.{Asked}
@@ -8,6 +8,7 @@ use Rattle.operations.specs.declared.Operation.TheVariants.{Veto, Link, Acquire,
 use Rattle.trace.specs.Arguments.{numbers, all_numbers}
 use Rattle.trace.specs.Kinds.{Line, no_more, with_word, with_half, with_truth}
 use Rattle.trace.specs.Mdio.{mdio_name}
+use Rattle.trace.specs.declared.operation.OperationLine.{OperationLine}
 
 -- all words are the host block's
 abbrev pub with_block : Operation → List ℕ → Line
@@ -37,12 +38,19 @@ by_name w vs =
     (pick (same w (114 ∷ 101 ∷ 108 ∷ 101 ∷ 97 ∷ 115 ∷ 101 ∷ [])) (with_word (λ mask. no_more (Release mask)) vs)
     (hostif_name w vs))))
 
--- the words of the arguments that are lent to `begin`: a list's stand behind its PHY, a command's are the first
-unfoldable pub lent_words : Operation → ℕ → List ℕ → List ℕ
-lent_words (MdioList phy) n args = take n (drop 1 args)
-lent_words what n args = take n args
+-- how many of the arguments are looked at: all, since no line that fits the input buffer has more than 7282
+abbrev pub looked_at : ℕ → ℕ
+looked_at n = pick (leb n 7282) n 7282
 
--- a name, then numbers alone. No line that fits the input buffer has more than 7282
-abbrev pub operation_of : List (List ℕ) → Line
+-- the words that are lent stand at the end of those n
+abbrev pub placed : ℕ → Line → Option OperationLine
+placed n None = None
+placed n (Some (what, words)) = Some (record { what = what; from = n - words; words = words })
+
+abbrev pub named_of : List ℕ → List ℕ → ℕ → Option OperationLine
+named_of w vs n = placed n (by_name w (take n vs))
+
+-- a name, then numbers alone
+abbrev pub operation_of : List (List ℕ) → Option OperationLine
 operation_of [] = None
-operation_of (w ∷ ws) = pick (all_numbers ws) (by_name w (take 7282 (numbers ws))) None
+operation_of (w ∷ ws) = pick (all_numbers ws) (named_of w (numbers ws) (looked_at (length ws))) None

@@ -1,5 +1,5 @@
 -- `bringup` and the Watch's `poll`: their names and arguments
-use Rattle.std.specs.Prelude.{ℕ, Bool, true, false, List, [], ◌∷◌, Option, None}
+use Rattle.std.specs.Prelude.{ℕ, ◌%◌, Bool, true, false, eqb, List, [], ◌∷◌, length, Option, Some, None}
 use Rattle.hardware.specs.Talk.{pick}
 use Rattle.text.specs.Same.{same}
 use Rattle.answers.specs.declared.Internal.{Internal}
@@ -19,9 +19,14 @@ internal_at true = Kr
 abbrev pub watch : ℕ → Internal → Option ℕ → ℕ → Watch
 watch phy internal forced reforced = record { phy = phy; internal = internal; forced = forced; reforced = reforced }
 
+-- the minute, where there is one, and the windows behind it, two words each
+unfoldable pub at_minute : Watch → List ℕ → Line
+at_minute w [] = Some (Poll w None, 0)
+at_minute w (minute ∷ ws) = pick (eqb (length ws % 2) 0) (Some (Poll w (Some minute), length ws)) None
+
 abbrev pub with_poll : List ℕ → Line
 with_poll =
-    with_word λ phy. with_truth λ kr. with_status λ forced. with_word λ reforced. no_more (Poll (watch phy (internal_at kr) forced reforced))
+    with_word λ phy. with_truth λ kr. with_status λ forced. with_word λ reforced. at_minute (watch phy (internal_at kr) forced reforced)
 
 -- `bringup`, `poll`
 unfoldable pub setup_name : List ℕ → List ℕ → Line

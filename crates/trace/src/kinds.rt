@@ -13,7 +13,7 @@ pub fn is_name(word: &[u8], name: &[u8]) -> bool
     word == name
 }
 
-// The operation, where no word is left. None of them was a host block's.
+// The operation, where no word is left. None is lent.
 #[tactic(auto, unfolding(crate::specs::Kinds::no_more))]
 pub fn no_more(what: Operation, args: &[u32]) -> Option<(Operation, usize)>
     ensures { no_more what args.now ≡ result }

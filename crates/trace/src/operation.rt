@@ -5,7 +5,7 @@ ghost use Rattle.text.specs.Words.{words};
 ghost use Rattle.operations.specs.declared.Operation.TheVariants as operation;
 ghost use Rattle.trace.specs.Arguments.{numbers};
 ghost use Rattle.trace.specs.Kinds.{no_more, with_word, with_truth};
-ghost use Rattle.trace.specs.Operation.{with_block, with_activity, hostif_name, by_name, lent_words, operation_of};
+ghost use Rattle.trace.specs.Operation.{with_block, with_activity, hostif_name, by_name, looked_at, named_of, operation_of};
 
 use crate::argument_words::read;
 use crate::kinds::{half, is_name, no_more, truth, word};
@@ -13,6 +13,14 @@ use crate::registers::mdio_named;
 use answers::Words;
 use arguments::Asked;
 use operations::Operation;
+
+// The operation that a line names, and where in the buffer the words that are lent to it stand.
+#[derive(Clone, Copy)]
+pub struct OperationLine {
+    pub what: Operation,
+    pub from: usize,
+    pub words: usize,
+}
 
 fn acquire(args: &[u32]) -> Option<(Operation, usize)>
     ensures { with_word (λ mask. no_more (operation.Acquire mask)) args.now ≡ result }
@@ -91,33 +99,33 @@ pub fn named(name: &[u8], args: &[u32]) -> Option<(Operation, usize)>
     hostif_named(name, args)
 }
 
-// The arguments are the first n words of the buffer, or all of them where there are no more.
-fn named_from(name: &[u8], buffer: &[u32], n: usize) -> Option<(Operation, usize)>
-    ensures { by_name name.now (take n buffer.now) ≡ result }
+// How many of so many arguments are looked at: all, or as many as the buffer has places.
+fn looked_at(n: usize) -> usize
+    ensures { looked_at n ≡ result }
 {
-    named(name, buffer.get(..n).unwrap_or(buffer))
+    if n <= 7282 { n } else { 7282 }
 }
 
-// The words of them that are lent to `begin`: a list's stand behind its PHY, a command's are the first.
-#[tactic(auto, unfolding(crate::specs::Operation::lent_words))]
-pub fn lent(what: Operation, args: &[u32], words: usize) -> &[u32]
-    ensures { lent_words what words args.now ≡ result.now }
+// The arguments are the first n words of the buffer, or all of them where there are no more; those that are lent the last.
+fn named_from(name: &[u8], buffer: &[u32], n: usize) -> Option<OperationLine>
+    ensures { named_of name.now buffer.now n ≡ result }
 {
-    let from = match what {
-        Operation::MdioList(_) => args.get(1..).unwrap_or(args),
-        _ => args,
-    };
-    from.get(..words).unwrap_or(from)
+    let (what, words) = named(name, buffer.get(..n).unwrap_or(buffer))?;
+    Some(OperationLine {
+        what,
+        from: n.saturating_sub(words),
+        words,
+    })
 }
 
 // The argument words are left in the buffer. It has as many places as a line in the input buffer may have words, so that a
-// list that is too long is seen to be, and each of its devices is looked at.
+// list or a block that is too long is seen to be, and each of a list's devices is looked at.
 #[tactic(auto, using(text::proofs::PartLaws::part_slice, lines::proofs::Laws::place, crate::proofs::OperationLaws::kept, crate::proofs::OperationLaws::not_read, crate::proofs::OperationLaws::are_read))]
-pub fn operation_line(line: &[u8], args: &mut [u32; 7282]) -> Option<(Operation, usize)>
+pub fn operation_line(line: &[u8], args: &mut [u32; 7282]) -> Option<OperationLine>
     ensures line_value { operation_of (words line.now) ≡ result }
     ensures args_after { args.new ≡ sets args.old 0 (numbers (drop 1 (words line.now))) }
 {
     let (start, end) = text::word(line, 0)?;
     let n = read(line, end, args)?;
-    named_from(&line[start..end], args, n)
+    named_from(&line[start..end], args, looked_at(n))
 }

@@ -1,6 +1,6 @@
 // The operation lines of `bringup` and of the Watch's `poll`.
 ghost use Rattle.std.specs.Prelude.{◌≡◌};
-ghost use Rattle.trace.specs.Setups.{internal_at, with_bringup, with_poll, setup_name};
+ghost use Rattle.trace.specs.Setups.{internal_at, at_minute, with_bringup, with_poll, setup_name};
 
 use crate::kinds::{is_name, no_more, status, truth, word};
 use answers::Internal;
@@ -20,6 +20,21 @@ fn internal_at(kr: bool) -> Internal
     if kr { Internal::Kr } else { Internal::Ixfi }
 }
 
+// The minute, where there is one, and the windows behind it, two words each.
+#[tactic(auto, unfolding(crate::specs::Setups::at_minute))]
+fn at_minute(watch: Watch, args: &[u32]) -> Option<(Operation, usize)>
+    ensures { at_minute watch args.now ≡ result }
+{
+    let Some((minute, windows)) = args.split_first() else {
+        return Some((Operation::Poll(watch, None), 0));
+    };
+    if windows.len() % 2 == 0 {
+        Some((Operation::Poll(watch, Some(*minute)), windows.len()))
+    } else {
+        None
+    }
+}
+
 fn poll(args: &[u32]) -> Option<(Operation, usize)>
     ensures { with_poll args.now ≡ result }
 {
@@ -33,7 +48,7 @@ fn poll(args: &[u32]) -> Option<(Operation, usize)>
         forced,
         reforced,
     };
-    no_more(Operation::Poll(watch), args)
+    at_minute(watch, args)
 }
 
 #[tactic(auto, unfolding(crate::specs::Setups::setup_name))]

@@ -1,4 +1,4 @@
-// x552.rs's Watch: its poll by value, suspended at a job.
+// x552.rs's Watch: its poll by value, suspended at a job; inside a window it does not force.
 #![tactic(auto)]
 
 pub mod poll;

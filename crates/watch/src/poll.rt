@@ -1,12 +1,13 @@
-// x552.rs's `Watch::poll`. On each link-up or change of speed the internal link is forced anew to the copper's speed.
+// x552.rs's `Watch::poll`. On each link-up or change of speed the internal link is forced anew to the copper's speed; inside a
+// window (document 02) it is held.
 ghost use Rattle.std.specs.Prelude.{◌≡◌, ℕ, List};
 ghost use Rattle.kr.specs.Sequence.{told_sequence};
 ghost use Rattle.phy.specs.AnLink.{told_an_link};
 ghost use Rattle.reference.specs.Watch.{is_forced, poll_down};
-ghost use Rattle.watch.specs.Poll.{poll_of, same_of, force_of, speed_of, force_then, second_then, first_then, got_status, resume_poll, told_poll};
+ghost use Rattle.watch.specs.Poll.{poll_of, same_of, held_of, force_of, speed_of, force_then, second_then, first_then, got_status, resume_poll, told_poll};
 
 use answers::{Copper, Internal};
-use arguments::{Left, Register, Watch};
+use arguments::{Left, Register, Windowed};
 use hardware::{Error, Port, Step};
 use jobs::job::Job;
 use kr::sequence::{KrPlace, Sequence};
@@ -40,37 +41,37 @@ fn is_forced(forced: Option<u16>, status: u16) -> bool
 
 impl Poll {
     // Down forgets the forced status.
-    fn down(watch: Watch, port: Port) -> Step<Job, Poll, Result<Polled, Error>>
-        ensures { (b : List ℕ) → told_poll port watch b result ≡ poll_down watch.reforced }
+    fn down(asked: Windowed, port: Port) -> Step<Job, Poll, Result<Polled, Error>>
+        ensures { (b : List ℕ) → told_poll port asked b result ≡ poll_down asked.watch.reforced }
     {
         let left = Left {
             forced: None,
-            reforced: watch.reforced,
+            reforced: asked.watch.reforced,
         };
         let copper = Copper::Down;
         Step::Done(Ok(Polled { copper, left }))
     }
 
     // The link is up at a speed that it was forced to before, or at none that the internal link carries.
-    fn same(watch: Watch, port: Port, seen: Copper) -> Step<Job, Poll, Result<Polled, Error>>
-        ensures { (b : List ℕ) → told_poll port watch b result ≡ same_of watch seen }
+    fn same(asked: Windowed, port: Port, seen: Copper) -> Step<Job, Poll, Result<Polled, Error>>
+        ensures { (b : List ℕ) → told_poll port asked b result ≡ same_of asked.watch seen }
     {
         let left = Left {
-            forced: watch.forced,
-            reforced: watch.reforced,
+            forced: asked.watch.forced,
+            reforced: asked.watch.reforced,
         };
         Step::Done(Ok(Polled { copper: seen, left }))
     }
 
     #[tactic(auto, using(hardware::proofs::Laws::then_assoc))]
     fn after_force(
-        watch: Watch,
+        asked: Windowed,
         port: Port,
         status: u16,
         megabits: u32,
         step: Step<Job, Sequence, Result<u32, Error>>,
     ) -> Step<Job, Poll, Result<Polled, Error>>
-        ensures { (b : List ℕ) → told_poll port watch b result ≡ force_then watch status megabits (told_sequence port b step) }
+        ensures { (b : List ℕ) → told_poll port asked b result ≡ force_then asked.watch status megabits (told_sequence port b step) }
     {
         match step {
             Step::Ask(job, s) => Step::Ask(job, Poll::Force(status, megabits, s)),
@@ -78,7 +79,7 @@ impl Poll {
             Step::Done(Ok(_)) => {
                 let left = Left {
                     forced: Some(status),
-                    reforced: watch.reforced.wrapping_add(1),
+                    reforced: asked.watch.reforced.wrapping_add(1),
                 };
                 let copper = Copper::Up { megabits };
                 Step::Done(Ok(Polled { copper, left }))
@@ -88,36 +89,45 @@ impl Poll {
 
     #[tactic(auto, using(hardware::proofs::Laws::then_assoc), unfolding(reference::specs::X552::kr_autoneg, reference::specs::X552::ixfi))]
     fn force(
-        watch: Watch,
+        asked: Windowed,
         port: Port,
         status: u16,
         megabits: u32,
     ) -> Step<Job, Poll, Result<Polled, Error>>
-        ensures { (b : List ℕ) → told_poll port watch b result ≡ force_of port watch status megabits }
+        ensures { (b : List ℕ) → told_poll port asked b result ≡ force_of port asked.watch status megabits }
     {
-        match watch.internal {
+        match asked.watch.internal {
             Internal::Kr => {
                 let step = Sequence::start(KrPlace::Advertise(true, true), port);
-                Poll::after_force(watch, port, status, megabits, step)
+                Poll::after_force(asked, port, status, megabits, step)
             }
             Internal::Ixfi => {
                 let step = Sequence::start(KrPlace::Force(megabits == 10_000), port);
-                Poll::after_force(watch, port, status, megabits, step)
+                Poll::after_force(asked, port, status, megabits, step)
             }
         }
     }
 
+    // A re-force is due, inside a window: the Watch stays as it was.
+    fn held(asked: Windowed, port: Port, megabits: u32) -> Step<Job, Poll, Result<Polled, Error>>
+        ensures { (b : List ℕ) → told_poll port asked b result ≡ held_of asked.watch megabits }
+    {
+        Poll::same(asked, port, Copper::Held { megabits })
+    }
+
     // The one place that decides whether the internal link is forced anew.
-    fn speed(watch: Watch, port: Port, status: u16) -> Step<Job, Poll, Result<Polled, Error>>
-        ensures { (b : List ℕ) → told_poll port watch b result ≡ speed_of port watch status }
+    fn speed(asked: Windowed, port: Port, status: u16) -> Step<Job, Poll, Result<Polled, Error>>
+        ensures { (b : List ℕ) → told_poll port asked b result ≡ speed_of port asked status }
     {
         match copper(status as u32) {
-            None => Poll::same(watch, port, Copper::Invalid { status }),
+            None => Poll::same(asked, port, Copper::Invalid { status }),
             Some(megabits) => {
-                if is_forced(watch.forced, status) {
-                    Poll::same(watch, port, Copper::Up { megabits })
+                if is_forced(asked.watch.forced, status) {
+                    Poll::same(asked, port, Copper::Up { megabits })
+                } else if asked.inside {
+                    Poll::held(asked, port, megabits)
                 } else {
-                    Poll::force(watch, port, status, megabits)
+                    Poll::force(asked, port, status, megabits)
                 }
             }
         }
@@ -125,86 +135,86 @@ impl Poll {
 
     #[tactic(auto, using(hardware::proofs::Laws::then_assoc))]
     fn after_second(
-        watch: Watch,
+        asked: Windowed,
         port: Port,
         status: u16,
         step: Step<Job, AnLink, Result<bool, Error>>,
     ) -> Step<Job, Poll, Result<Polled, Error>>
-        ensures { (b : List ℕ) → told_poll port watch b result ≡ second_then port watch status (told_an_link port watch.phy b step) }
+        ensures { (b : List ℕ) → told_poll port asked b result ≡ second_then port asked status (told_an_link port asked.watch.phy b step) }
     {
         match step {
             Step::Ask(job, s) => Step::Ask(job, Poll::Second(status, s)),
             Step::Done(Err(e)) => Step::Done(Err(e)),
-            Step::Done(Ok(true)) => Poll::speed(watch, port, status),
-            Step::Done(Ok(false)) => Poll::down(watch, port),
+            Step::Done(Ok(true)) => Poll::speed(asked, port, status),
+            Step::Done(Ok(false)) => Poll::down(asked, port),
         }
     }
 
     #[tactic(auto, using(hardware::proofs::Laws::then_assoc))]
     fn after_status(
-        watch: Watch,
+        asked: Windowed,
         port: Port,
         got: Result<u32, Error>,
     ) -> Step<Job, Poll, Result<Polled, Error>>
-        ensures { (b : List ℕ) → told_poll port watch b result ≡ got_status port watch got }
+        ensures { (b : List ℕ) → told_poll port asked b result ≡ got_status port asked got }
     {
         match got {
             Err(e) => Step::Done(Err(e)),
             Ok(v) => {
-                let step = AnLink::start(watch.phy, port);
-                Poll::after_second(watch, port, (v % 8) as u16, step)
+                let step = AnLink::start(asked.watch.phy, port);
+                Poll::after_second(asked, port, (v % 8) as u16, step)
             }
         }
     }
 
     #[tactic(auto, using(hardware::proofs::Laws::then_assoc))]
     fn after_first(
-        watch: Watch,
+        asked: Windowed,
         port: Port,
         step: Step<Job, AnLink, Result<bool, Error>>,
     ) -> Step<Job, Poll, Result<Polled, Error>>
-        ensures { (b : List ℕ) → told_poll port watch b result ≡ first_then port watch (told_an_link port watch.phy b step) }
+        ensures { (b : List ℕ) → told_poll port asked b result ≡ first_then port asked (told_an_link port asked.watch.phy b step) }
     {
         match step {
             Step::Ask(job, s) => Step::Ask(job, Poll::First(s)),
             Step::Done(Err(e)) => Step::Done(Err(e)),
             Step::Done(Ok(true)) => {
                 Step::Ask(
-                    Job::ReadReg(watch.phy, Register::AN, Register::VENDOR_STATUS),
+                    Job::ReadReg(asked.watch.phy, Register::AN, Register::VENDOR_STATUS),
                     Poll::Status,
                 )
             }
-            Step::Done(Ok(false)) => Poll::down(watch, port),
+            Step::Done(Ok(false)) => Poll::down(asked, port),
         }
     }
 
-    #[tactic(auto, using(hardware::proofs::Laws::then_assoc), unfolding(reference::specs::Watch::poll))]
-    pub fn start(watch: Watch, port: Port) -> Step<Job, Poll, Result<Polled, Error>>
-        ensures { (b : List ℕ) → told_poll port watch b result ≡ poll_of port watch }
+    #[tactic(auto, using(hardware::proofs::Laws::then_assoc), unfolding(reference::specs::Window::window_poll, reference::specs::Window::due))]
+    pub fn start(asked: Windowed, port: Port) -> Step<Job, Poll, Result<Polled, Error>>
+        ensures { (b : List ℕ) → told_poll port asked b result ≡ poll_of port asked }
     {
-        let step = AnLink::start(watch.phy, port);
-        Poll::after_first(watch, port, step)
+        let step = AnLink::start(asked.watch.phy, port);
+        Poll::after_first(asked, port, step)
     }
 
     #[tactic(auto, using(hardware::proofs::Laws::then_assoc))]
     pub fn next(
         self,
-        watch: Watch,
+        asked: Windowed,
         port: Port,
         got: Result<u32, Error>,
     ) -> Step<Job, Poll, Result<Polled, Error>>
-        ensures { (b : List ℕ) → told_poll port watch b result ≡ resume_poll port watch self got }
+        ensures { (b : List ℕ) → told_poll port asked b result ≡ resume_poll port asked self got }
     {
         match self {
-            Poll::First(s) => Poll::after_first(watch, port, s.next(watch.phy, port, got)),
-            Poll::Status => Poll::after_status(watch, port, got),
+            Poll::First(s) => Poll::after_first(asked, port, s.next(asked.watch.phy, port, got)),
+            Poll::Status => Poll::after_status(asked, port, got),
             Poll::Second(status, s) => {
-                let step = s.next(watch.phy, port, got);
-                Poll::after_second(watch, port, status, step)
+                let step = s.next(asked.watch.phy, port, got);
+                Poll::after_second(asked, port, status, step)
             }
             Poll::Force(status, megabits, s) => {
                 let step = s.next(port, got);
-                Poll::after_force(watch, port, status, megabits, step)
+                Poll::after_force(asked, port, status, megabits, step)
             }
         }
     }

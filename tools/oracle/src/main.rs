@@ -9,7 +9,8 @@
 //! - An action whose reply is missing (26) or unreadable (25) was not done: it has no line and is not counted.
 //! - The first two lines are read before anything is refused: where one is missing or unreadable it is 25, with any lan.
 //! - An `end no` line has its number's fields alone, also those of `command` and `poll`.
-//! - A pause that the port line names is looked at (25, 32) and not used: the Rust waits 10.
+//! - A pause that the port line names is looked at (25, 32) and not used: the Rust waits 10. Nor are the minute and the windows
+//!   that a poll's line names (25, 40): the Rust forces at any time.
 //! - Fiber goes by family and device id together: X552 with 15c4 is not fiber.
 //! - Lines behind the end are not read. The exit status is 0.
 mod answers;
@@ -26,8 +27,8 @@ use lines::PortLine;
 use operations::Operation;
 use talk::Talk;
 
-/// The number of the refusal, 20, 21, 22, 31, 23 and 32 in this order, where the port or the operation is refused before any action. The
-/// port's 35, a KR address above ffff, is not there: the Rust sends such an address, and runs beside it leave it out.
+/// The number of the refusal, 20, 21, 22, 31, 23, 32 and 40 in this order, where the port or the operation is refused before any
+/// action. The port's 35, a KR address above ffff, is not there: the Rust sends such an address, and runs beside it leave it out.
 fn refusal(port: &PortLine, operation: &Operation) -> Option<u32> {
     let is_fiber = match port.family {
         Family::X553 => [0x15c4, 0x15ce].contains(&port.device),
@@ -40,6 +41,7 @@ fn refusal(port: &PortLine, operation: &Operation) -> Option<u32> {
         (31, operation.pairs > 64),
         (23, operation.block > 16),
         (32, port.pause == 0 || port.pause > 100),
+        (40, operation.has_bad_windows),
     ];
     refusals.into_iter().find(|(_, refused)| *refused).map(|(number, _)| number)
 }

@@ -22,6 +22,8 @@ pub struct Operation {
     pub pairs: usize,
     /// The words of its host block.
     pub block: usize,
+    /// The minute of a poll or one of its windows is none.
+    pub has_bad_windows: bool,
     pub run: Box<dyn FnOnce(&mut Talk, Port) -> Done>,
 }
 
@@ -34,7 +36,7 @@ impl Operation {
 /// An operation that leaves nothing beside its answer.
 fn does<T: Words>(run: impl FnOnce(&mut Talk, Port) -> Result<T, Error<u32>> + 'static) -> Operation {
     let run = |talk: &mut Talk, port| Done { answer: run(talk, port).map(|answer| answer.words()), left: None };
-    Operation { addresses: vec![], pairs: 0, block: 0, run: Box::new(run) }
+    Operation { addresses: vec![], pairs: 0, block: 0, has_bad_windows: false, run: Box::new(run) }
 }
 
 type Group = fn(&[u8], &mut Arguments) -> Option<Operation>;
@@ -63,7 +65,10 @@ fn of_port(name: &[u8], a: &mut Arguments) -> Option<Operation> {
         b"poll" => {
             let (phy, place, forced) = (a.word()?, a.truth()?, a.option(Arguments::half)?);
             let internal = if place { x552::Internal::Kr } else { x552::Internal::Ixfi };
-            poll(phy, internal, forced, a.word()?)
+            let (reforced, minute, windows) = (a.word()?, a.word(), a.rest());
+            if windows.len() % 2 == 1 { return None }
+            let has_bad_windows = minute.is_some_and(|minute| are_bad(minute, &windows));
+            Operation { has_bad_windows, ..poll(phy, internal, forced, reforced) }
         }
         _ => return None,
     })
@@ -83,6 +88,12 @@ fn bringup(veto: bool) -> Operation {
     })
 }
 
+/// More than 32 windows of two words each, or a minute that the week does not have, or a start that is its end.
+fn are_bad(minute: u32, windows: &[u32]) -> bool {
+    let is_none = |minute: &u32| *minute > 10_079;
+    is_none(&minute) || windows.len() > 64 || windows.iter().any(is_none) || windows.chunks(2).any(|window| window[0] == window[1])
+}
+
 fn poll(phy: u32, internal: x552::Internal, forced: Option<u16>, reforced: u32) -> Operation {
     let run = move |talk: &mut Talk, port| {
         let mut watch = x552::Watch { phy: phy as u8, internal, forced, reforced };
@@ -90,7 +101,7 @@ fn poll(phy: u32, internal: x552::Internal, forced: Option<u16>, reforced: u32) 
         let left = (watch.forced, watch.reforced).words();
         Done { answer: copper.map(|copper| [copper.words(), left.clone()].concat()), left: Some(left) }
     };
-    Operation { addresses: vec![phy], pairs: 0, block: 0, run: Box::new(run) }
+    Operation { addresses: vec![phy], pairs: 0, block: 0, has_bad_windows: false, run: Box::new(run) }
 }
 
 fn of_locks(name: &[u8], a: &mut Arguments) -> Option<Operation> {
@@ -127,7 +138,7 @@ fn command(mut block: Vec<u32>) -> Operation {
         let status = hostif::command(talk, port, &mut block);
         Done { answer: status.map(|status| [status.words(), block.clone()].concat()), left: Some(block) }
     };
-    Operation { addresses: vec![], pairs: 0, block: length, run: Box::new(run) }
+    Operation { addresses: vec![], pairs: 0, block: length, has_bad_windows: false, run: Box::new(run) }
 }
 
 /// What is done with a PHY, or to find one.
@@ -174,7 +185,7 @@ fn of_list(name: &[u8], a: &mut Arguments) -> Option<Operation> {
         if result.is_err() && values.len() == count { values.clear() }
         Done { answer: result.map(|()| values.clone()), left: Some(values) }
     };
-    Some(Operation { addresses, pairs: count, block: 0, run: Box::new(run) })
+    Some(Operation { addresses, pairs: count, block: 0, has_bad_windows: false, run: Box::new(run) })
 }
 
 fn of_phy_register(name: &[u8], a: &mut Arguments) -> Option<Operation> {

@@ -57,6 +57,7 @@ unfolding words_copper
 copper_length copperv.Down = refl
 copper_length (copperv.Up x0) = refl
 copper_length (copperv.Invalid x0) = refl
+copper_length (copperv.Held x0) = refl
 
 pub drop_copper : (s : Copper) (rest : List ℕ) → drop 2 (words_copper s ++ rest) ≡ rest
 drop_copper s rest = drop_at (words_copper s) rest 2 (copper_length s)

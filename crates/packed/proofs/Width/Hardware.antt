@@ -33,6 +33,7 @@ error_length errorv.KrAddress = refl
 error_length errorv.Pairs = refl
 error_length errorv.Block = refl
 error_length errorv.Pause = refl
+error_length errorv.Windows = refl
 
 pub family_length : (s : Family) → length (words_family s) ≡ 1
 unfolding words_family

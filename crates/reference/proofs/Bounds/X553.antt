@@ -1,6 +1,6 @@
 -- x553.rs and `Watch`: actions and microseconds at the most, for a pause of up to 100 microseconds
 use Rattle.std.specs.Prelude.{Option, None, Some}
-use Prim.Native.Nat.{ℕ, ◌+◌, ◌%◌, ◌≤◌}
+use Prim.Native.Nat.{ℕ, ◌+◌, ◌≤◌}
 use mathlib.Core.Bool.{Bool, true, false, not, ◌||◌}
 use native.Mathlib.Omega.{arith}
 use lib.Dec.{eqb}
@@ -8,7 +8,6 @@ use Rattle.hardware.specs.Bound.{Within, at_end}
 use Rattle.hardware.specs.Talk.{Call, is_clear}
 use Rattle.hardware.specs.declared.Port.{Port}
 use Rattle.hardware.proofs.Bounds.{within_more, within_pick}
-use Rattle.words.specs.Link as words
 use Rattle.answers.specs.declared.FirmwarePhy.{FirmwarePhy}
 use Rattle.answers.specs.declared.Internal.{Internal}
 use Rattle.answers.specs.declared.Internal.TheVariants.{Ixfi, Kr}
@@ -38,7 +37,9 @@ use Rattle.reference.specs.X553.{
   setup_backplane,
   setup,
 }
-use Rattle.reference.specs.Watch.{is_forced, poll_force, poll_speed, poll_up, poll}
+use Rattle.reference.specs.Watch.{poll_force}
+use Rattle.reference.specs.Window.{Due, due, settle, window_poll}
+use Rattle.reference.specs.Window as window
 use Rattle.reference.proofs.Within.{of_read, of_end, of_bind}
 use Rattle.reference.proofs.Bounds.Hostif.{of_activity}
 use Rattle.reference.proofs.Bounds.Mdio.{of_read_reg, of_an_link}
@@ -143,21 +144,19 @@ module _ (pause : ℕ) (short : pause ≤ 100) (port : Port) where
       within_more (omega arith) (omega arith) (of_bind (of_autoneg pause short port true true) (λ _. of_end))
   poll_force_lem reforced status megabits Ixfi = of_bind (of_ixfi pause short port (eqb megabits 10000)) (λ _. of_end)
 
-  poll_speed_lem : (internal : Internal) (forced : Option ℕ) (reforced status : ℕ) (speed : Option ℕ)
-      → Within (poll_speed pause port internal forced reforced status speed) 112299824 2873108000
-  poll_speed_lem internal forced reforced status None = at_end
-  poll_speed_lem internal forced reforced status (Some megabits) =
-      within_pick (is_forced forced status) at_end (poll_force_lem reforced status megabits internal)
+  settle_lem : (inside : Bool) (internal : Internal) (forced : Option ℕ) (reforced : ℕ) (d : Due)
+      → Within (settle inside pause port internal forced reforced d) 112299824 2873108000
+  settle_lem inside internal forced reforced (window.nothing p) = at_end
+  settle_lem inside internal forced reforced (window.force status megabits) =
+      within_pick inside at_end (poll_force_lem reforced status megabits internal)
 
-  poll_up_lem : (phy : ℕ) (internal : Internal) (forced : Option ℕ) (reforced : ℕ)
-      → Within (poll_up pause port phy internal forced reforced) 48562988330 1236217826000
-  poll_up_lem phy internal forced reforced =
-      of_bind (of_read_reg port phy 7 0xc800)
-      (λ v. of_bind (of_an_link port phy)
-      (λ up. within_pick up (poll_speed_lem internal forced reforced (v % 8) (words.copper (v % 8))) at_end))
+  of_due : (phy : ℕ) (forced : Option ℕ) (reforced : ℕ) → Within (due port phy forced reforced) 80751147510 2055574530000
+  unfolding due
+  of_due phy forced reforced =
+      of_bind (of_an_link port phy)
+      (λ up. within_pick up (of_bind (of_read_reg port phy 7 0xc800) (λ v. of_bind (of_an_link port phy) (λ up. of_end))) at_end)
 
-  pub of_poll : (phy : ℕ) (internal : Internal) (forced : Option ℕ) (reforced : ℕ)
-      → Within (poll pause port phy internal forced reforced) 80863447334 2058447638000
-  unfolding poll
-  of_poll phy internal forced reforced =
-      of_bind (of_an_link port phy) (λ up. within_pick up (poll_up_lem phy internal forced reforced) at_end)
+  pub of_window_poll : (inside : Bool) (phy : ℕ) (internal : Internal) (forced : Option ℕ) (reforced : ℕ)
+      → Within (window_poll inside pause port phy internal forced reforced) 80863447334 2058447638000
+  unfolding window_poll
+  of_window_poll inside phy internal forced reforced = of_bind (of_due phy forced reforced) (settle_lem inside internal forced reforced)

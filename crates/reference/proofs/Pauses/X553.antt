@@ -1,6 +1,6 @@
 -- x553.rs, `Watch` and `bringup` have no sideband wait but in their accesses
 use Rattle.std.specs.Prelude.{Option, None, Some}
-use Prim.Native.Nat.{ℕ, ◌%◌}
+use Prim.Native.Nat.{ℕ}
 use mathlib.Core.Path.{refl}
 use mathlib.Core.Bool.{Bool, true, false, not, ◌||◌}
 use lib.Dec.{eqb}
@@ -8,13 +8,14 @@ use Rattle.hardware.specs.Talk.{Call, is_clear}
 use Rattle.hardware.specs.declared.Family.{Family}
 use Rattle.hardware.specs.declared.Family.TheVariants as familyv
 use Rattle.hardware.specs.declared.Port.{Port}
-use Rattle.words.specs.Link as words
 use Rattle.answers.specs.declared.FirmwarePhy.{FirmwarePhy}
 use Rattle.answers.specs.declared.Internal.{Internal}
 use Rattle.answers.specs.declared.Internal.TheVariants.{Ixfi, Kr}
 use Rattle.reference.specs.Bringup.{bringup552, bringup553, bringup_of, bringup}
 use Rattle.reference.specs.Bringup as bringup
-use Rattle.reference.specs.Watch.{is_forced, poll_force, poll_speed, poll}
+use Rattle.reference.specs.Watch.{poll_force}
+use Rattle.reference.specs.Window.{Due, due, settle, window_poll}
+use Rattle.reference.specs.Window as window
 use Rattle.reference.specs.X552 as x552
 use Rattle.reference.specs.X553.{
   firmware_phy,
@@ -150,18 +151,18 @@ module _ (p q : ℕ) (port : Port) where
   poll_force_lem reforced status megabits Kr = bind (of_autoneg p q port true true) (λ _. ends)
   poll_force_lem reforced status megabits Ixfi = bind (of_ixfi p q port (eqb megabits 10000)) (λ _. ends)
 
-  poll_speed_lem : (internal : Internal) (forced : Option ℕ) (reforced status : ℕ) (speed : Option ℕ)
-      → Same p q (poll_speed p port internal forced reforced status speed) (poll_speed q port internal forced reforced status speed)
-  poll_speed_lem internal forced reforced status None = ends
-  poll_speed_lem internal forced reforced status (Some megabits) =
-      picks (is_forced forced status) ends (poll_force_lem reforced status megabits internal)
+  settle_lem : (inside : Bool) (internal : Internal) (forced : Option ℕ) (reforced : ℕ) (d : Due)
+      → Same p q (settle inside p port internal forced reforced d) (settle inside q port internal forced reforced d)
+  settle_lem inside internal forced reforced (window.nothing seen) = ends
+  settle_lem inside internal forced reforced (window.force status megabits) = picks inside ends (poll_force_lem reforced status megabits internal)
 
-  pub of_poll : (phy : ℕ) (internal : Internal) (forced : Option ℕ) (reforced : ℕ)
-      → Same p q (poll p port phy internal forced reforced) (poll q port phy internal forced reforced)
-  unfolding poll
-  of_poll phy internal forced reforced =
+  of_due : (phy : ℕ) (forced : Option ℕ) (reforced : ℕ) → Same p q (due port phy forced reforced) (due port phy forced reforced)
+  unfolding due
+  of_due phy forced reforced =
       bind (of_an_link port phy)
-      (λ up. picks up
-      (bind (of_read_reg port phy 7 0xc800)
-      (λ v. bind (of_an_link port phy)
-      (λ up. picks up (poll_speed_lem internal forced reforced (v % 8) (words.copper (v % 8))) ends))) ends)
+      (λ up. picks up (bind (of_read_reg port phy 7 0xc800) (λ v. bind (of_an_link port phy) (λ up. ends))) ends)
+
+  pub of_window_poll : (inside : Bool) (phy : ℕ) (internal : Internal) (forced : Option ℕ) (reforced : ℕ)
+      → Same p q (window_poll inside p port phy internal forced reforced) (window_poll inside q port phy internal forced reforced)
+  unfolding window_poll
+  of_window_poll inside phy internal forced reforced = bind (of_due phy forced reforced) (settle_lem inside internal forced reforced)

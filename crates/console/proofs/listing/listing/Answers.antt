@@ -6,7 +6,7 @@ pub returns : goal.returns
 returns g c =
     let first = c.fetch-next.ensures in
     let second = c.fetch-next-2.ensures in
-    let what = c.operation_line-what.ensures in
+    let what = c.operation_line-named.ensures in
     reads_lines c.opened.result
     (λ text. Prints (g.W.Write.contents c.args.sink.now) c.args.waiting.now text (g.W.Write.contents c.opened.new.sink) c.opened.new.waiting)
     c.opened.new.buf c.args.asked (record { at_once = first.at_once; read = first.read }) c.line_of.ensures c.port_line-port.ensures

@@ -1,5 +1,5 @@
 use mathlib.Core.List.{append_assoc}
-use Rattle.packed.proofs.Laws.{then}
+use Rattle.packed.proofs.Laws.{then, is_flag}
 use Rattle.packed.proofs.Width.Answers.{drop_internal, drop_maybe_half}
 use Rattle.packed.specs.After.{words_after, get_after}
 use Rattle.packed.specs.Tape.{word_at}
@@ -67,8 +67,8 @@ returns-in-Bringup-clause-adds c = rw c.in-Bringup.is (then c.word-at-in-Bringup
 
 pub returns-in-Poll-clause-adds : goal.returns-in-Poll-clause-adds
 unfolding words_after
-returns-in-Poll-clause-adds c = rw c.in-Poll.is (then c.word-at-in-Poll.ensures (then c.word-at-in-Poll-2.ensures (then c.word-at-in-Poll-3.ensures (then c.put-at-in-Poll.ensures.adds (then c.put-at-in-Poll-2.ensures.adds (then c.put-at-in-Poll-3.ensures.adds c.zeros-in-Poll.ensures))))))
+returns-in-Poll-clause-adds c = rw c.in-Poll.is (then c.word-at-in-Poll.ensures (then c.word-at-in-Poll-2.ensures (then c.word-at-in-Poll-3.ensures (then c.flag-at-in-Poll.ensures (then c.put-at-in-Poll.ensures.adds (then c.put-at-in-Poll-2.ensures.adds (then c.put-at-in-Poll-3.ensures.adds c.zeros-in-Poll.ensures)))))))
 
 pub returns-in-Poll-clause-back : goal.returns-in-Poll-clause-back
 unfolding words_after get_after word_at
-returns-in-Poll-clause-back c = λ rest. simp (c.in-Poll.is, c.put-at-in-Poll.ensures.back, c.put-at-in-Poll-2.ensures.back, c.put-at-in-Poll-3.ensures.back, append_assoc, drop_internal, drop_maybe_half)
+returns-in-Poll-clause-back c = λ rest. simp (c.in-Poll.is, is_flag, c.put-at-in-Poll.ensures.back, c.put-at-in-Poll-2.ensures.back, c.put-at-in-Poll-3.ensures.back, append_assoc, drop_internal, drop_maybe_half)

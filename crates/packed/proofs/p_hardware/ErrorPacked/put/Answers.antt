@@ -65,3 +65,7 @@ returns-in-Block-clause-adds c = rw c.in-Block.is (then c.word-at-in-Block.ensur
 pub returns-in-Pause-clause-adds : goal.returns-in-Pause-clause-adds
 unfolding words_error
 returns-in-Pause-clause-adds c = rw c.in-Pause.is (then c.word-at-in-Pause.ensures c.zeros-in-Pause.ensures)
+
+pub returns-in-Windows-clause-adds : goal.returns-in-Windows-clause-adds
+unfolding words_error
+returns-in-Windows-clause-adds c = rw c.in-Windows.is (then c.word-at-in-Windows.ensures c.zeros-in-Windows.ensures)
