@@ -10,13 +10,17 @@
  *     mansruoy_answered r = mansruoy_answer(s.to);
  *
  * Numbers of a call: 0 it went well; 20 lan above 1, 21 a fiber device, 22 a PHY or device address above 31, 35 a KR address
- * above 0xffff, 31 a list of more than 64 pairs, 23 a host block above 16 words, 32 a pause of 0 or above 100, 40 a poll's minute
- * or windows that are none; 24 the conversation has ended; 25 a reply's kind above 1, or in a run an odd number of reply words; 26 no
- * reply left, 27 no room for three words (both stop a run, which goes on from what it gives back); 100 no such family, device or
+ * above 0xffff, 31 a list of more than 64 pairs, 23 a host block above 448 words, 32 a pause of 0 or above 100, 40 a poll's minute
+ * or windows that are none; 24 the conversation has ended; 25 a reply's kind above 1, or in a run an odd number of reply words; 23 another
+ * number of words lent than are to be; 26 no reply left, 27 no room for three words (both stop a run, which goes on from what it gives back); 100 no such family, device or
  * operation, or arguments that are not the operation's; 101 words that are no conversation; 102 it
  * has not ended. A call that is turned away changes nothing.
  *
- * No pointer may be null, also where its length is 0, and the two buffers of a run do not overlap.
+ * A `command` of 17 to 448 words remembers how many they are and not what: the caller keeps them, and lends them to each step and run
+ * (mansruoy_step_lent, mansruoy_run_lent), as the call before left them. The calls replace the words of the reply that have been read,
+ * and no other. A shorter one keeps its words in `block`.
+ *
+ * No pointer may be null, also where its length is 0, and the buffers of a run do not overlap.
  *
  * Link with target/staticlib/libborder.a (tools/library builds it); x86-64. It needs memcpy and memset, and nothing else of a C library. */
 #ifndef MANSRUOY_H
@@ -26,8 +30,8 @@
 #include <stdint.h>
 
 typedef struct {
-    uint32_t words[67]; /* what they mean may change; words that are no conversation's are refused */
-    uint32_t block[80]; /* a host block of 16 words, then a list's 64. At the end an answer's words are the first: a command's, with
+    uint32_t words[68]; /* what they mean may change; words that are no conversation's are refused */
+    uint32_t block[80]; /* a host block of up to 16 words, then a list's 64. At the end an answer's words are the first: a command's, with
                            those of its reply that were read, or a list's values */
 } mansruoy_conversation;
 
@@ -72,6 +76,9 @@ mansruoy_asked mansruoy_action(mansruoy_conversation c);
 /* The action is done: kind 0 and the value read (anything after a write or a wait), or kind 1 and the failure's code. */
 mansruoy_stepped mansruoy_step(mansruoy_conversation c, uint32_t kind, uint32_t value);
 
+/* The same of a `command` of more than 16 words, which are lent. */
+mansruoy_stepped mansruoy_step_lent(mansruoy_conversation c, uint32_t kind, uint32_t value, uint32_t *words, size_t words_len);
+
 /* The answer; 102 while it runs. */
 mansruoy_answered mansruoy_answer(mansruoy_conversation c);
 
@@ -79,5 +86,9 @@ mansruoy_answered mansruoy_answer(mansruoy_conversation c);
  * words (kind, register, value), from place `at` on. */
 mansruoy_ran mansruoy_run(mansruoy_conversation c, const uint32_t *replies, size_t replies_len, uint32_t *transcript,
                           size_t transcript_len, size_t at);
+
+/* The same of a `command` of more than 16 words, which are lent. */
+mansruoy_ran mansruoy_run_lent(mansruoy_conversation c, const uint32_t *replies, size_t replies_len, uint32_t *transcript,
+                               size_t transcript_len, size_t at, uint32_t *words, size_t words_len);
 
 #endif

@@ -8,7 +8,7 @@ const PAUSE: u32 = 10;
 #[repr(C)]
 #[derive(Clone, Copy)]
 struct Conversation {
-    words: [u32; 67],
+    words: [u32; 68],
     block: [u32; 80],
 }
 

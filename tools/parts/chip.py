@@ -6,7 +6,7 @@ once more because the example is read and copied as a whole; the device of tools
 SYNC = {'X552': (0x10140, 0x10160), 'X553': (0x15f70, 0x15f78)}  # SWSM, SW_FW_SYNC
 STATUS, MSCA, MSRWD, CTRL, DATA = 0x8, 0x425c, 0x4260, 0x11144, 0x11148
 LINKS, MMNGC, SEL, HICR, FWSTS = 0x42a4, 0x42d0, 0x11178, 0x15f00, 0x15f0c
-FLEX = range(0x15800, 0x15800 + 64, 4)
+FLEX = range(0x15800, 0x15f00, 4)  # 448 words
 
 
 class Chip:

@@ -88,7 +88,7 @@ class Device(Chip):
         if register == HICR:
             return self.any(2, 4 if self.started else 1)
         if register in FLEX:
-            return (self.reply + [self.any()] * 16)[FLEX.index(register)]
+            return (self.reply + [self.any()] * len(FLEX))[FLEX.index(register)]
         if register == LINKS:
             self.links -= 1
             return self.rng.getrandbits(30) | (self.links < 0 and self.rng.random() < 0.8) << 30
@@ -135,6 +135,9 @@ class Device(Chip):
         size, code = len(self.flex), self.flex.get(0, 0) & 0xff
         words, status, most = [self.any() for _ in range(15)], self.rng.getrandbits(8), max(0, 4 * size - 4)
         length = self.rng.choice((0, most, most, most + 1, *[self.rng.randint(0, most)] * 3))
+        if size > 16:  # a long block, and a reply of any length that its byte can say
+            words += [self.any() for _ in range(50)]
+            length = self.rng.choice((0, 1, 4, 255, 252, 251, 63, 64, min(most, 255), min(most + 1, 255), *[self.rng.randint(0, 255)] * 6))
         if (size, code) == (2, 0x0a):  # the PHY token
             busy = self.token > 0 and not self.flex[1] & 0x100
             self.token -= busy

@@ -1,8 +1,8 @@
 """Arguments, damaged lines, and the format of the stored list."""
 import re
 
-LONGEST = 4000  # characters in the longest line that is made
-MANY = 440      # words in it
+LONGEST = 5000  # characters in the longest line that is made, but for those of the longest blocks
+MANY = 449      # words in it, one more than a host block may have
 LISTS = (0, 1, 1, 2, 2, 3, 5, 9)  # pairs of most lists; some are long
 LONG_LISTS = (40, 63, 64)
 
@@ -13,6 +13,8 @@ ADDRESSES = (0x420c, 0x820c, 0x42a0, 0x5054, 0x4b00, 0, 0xbfff, 0xffff)
 ADDRESS_EDGES = [0xffff], [0x10000], [0xbfff], [0xc000], [0x800c420c], [0xffffbfff], [0xffffc000], [0xfffffff0], [0xffffffff]
 PHY_EDGES = [0x1f], [0x20], [0xff], [0x100], [0x10000], [0xffffffff]
 TRUTH_EDGES = [0], [1], [2], [0xffffffff]
+BLOCKS = [0, 1, 2, 2, 3, 6, 15, 16]  # how many words a host block has
+LONG_BLOCKS = [16, 17, 17, 18, 32, 63, 64, 65, 66, 67, 100, 200, 447, 448]  # the same where long ones are asked for
 # Each kind of argument: words that are read well, made from the rng r and the PHY in use; then words at
 # the edge of the kind, good, refused or unreadable.
 KINDS = {
@@ -37,8 +39,8 @@ KINDS = {
         [0x2755, 0x2756, 5], [0x2756, 0x2756, 5], [0x275f, 0x2756, 5], [0, 0x2756, 5], [4, 0x2756, 5], [5, 0x2756, 5], [600, 601, 600],
         [600, 1, 2, 600, 601], [600] + [1, 2] * 32, [600] + [1, 2] * 33, [600] + [1, 2] * 32 + [1], [600] + [1, 2] * 33 + [1],
         [600] + [1, 2] * 200, [600] + [1, 2] * 200 + [1])),
-    'block': (lambda r, phy: [r.choice((0, 0xffffffff, *[r.getrandbits(32)] * 3)) for _ in range(r.choice((0, 1, 2, 2, 3, 6, 15, 16)))],
-              ([], [0] * 15, [0] * 16, [0] * 17, [1] * 100, [0xffffffff] * MANY)),
+    'block': (lambda r, phy: [r.choice((0, 0xffffffff, *[r.getrandbits(32)] * 3)) for _ in range(r.choice(BLOCKS))],
+              ([], [0] * 15, [0] * 16, [0] * 17, [1] * 100, [7] * 447, [8] * 448, [0xffffffff] * MANY, [9] * 460)),
 }
 
 
@@ -76,12 +78,12 @@ def edge_lines(name, kinds, rng):
 def second_lines(name, kinds, rng):
     """Operation lines with a wrong number of words, damaged words, other forms."""
     words = sum(arguments(kinds, rng, 3), [])
-    for count in range(len(words)):
+    for count in range(min(len(words), 17)):
         yield line(name, *words[:count])
     for more in (1, 2, 17, MANY - len(words)):
         yield line(name, *words, *[0] * more)
     yield line(name, *words, *[0] * 16, '0000000')
-    for place in range(max(1, len(words))):
+    for place in range(max(1, len(words))) if len(words) <= 16 else (0, 15, 16, len(words) - 1):
         for bad in ('0000000', '000000000', '0000000g', '0x000000', '+0000001', '-', '00000 00', '\x0000000000'):
             yield line(name, *words[:place], bad, *words[place + 1:])
     for bad in (name.upper(), name[:-1], name + 's', name + '\x0b', 'nothing', '', '-', 'port', '\xe4'):
@@ -175,3 +177,8 @@ def stored_cases(file):
         line, _, text = piece.partition(b'\n')
         operation, kind = line.decode().split()
         yield operation, kind.replace('_', ' '), text
+
+
+def block_length(text):
+    """The words behind the operation's name."""
+    return len(text.split(b'\n', 2)[1].split()) - 1

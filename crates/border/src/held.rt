@@ -4,22 +4,23 @@ ghost use Rattle.hardware.specs.Talk.{pick};
 ghost use Rattle.border.specs.Held.{words_of, conversation_of, held_by, is_held};
 
 use conversation::conversation::Conversation;
-use hardware::{Family, Port, Step};
+use hardware::{Family, Port};
 use packed::packed::Packed;
 use packed::read::{half, joined, word_at};
 use packed::tape::{long, wide, word};
+use started::standing::Standing;
 
 // The layout is the header's. What the words mean is nobody's business but this crate's.
 #[repr(C)]
 #[derive(Clone, Copy)]
 pub struct Held {
-    pub words: [u32; 67],
+    pub words: [u32; 68],
     pub block: [u32; 80],
 }
 
 // All words of a conversation.
 #[tactic(auto, unfolding(crate::specs::Held::words_of, crate::specs::Held::conversation_of, packed::specs::Tape::word_at))]
-fn put_conversation(tape: &mut [u32; 67], c: Conversation)
+fn put_conversation(tape: &mut [u32; 68], c: Conversation)
     ensures written { tape.new ≡ words_of c }
     ensures back { conversation_of (words_of c) c.block ≡ c }
 {
@@ -43,7 +44,7 @@ fn get_conversation(words: &[u32], block: [u32; 80]) -> Conversation
             lan: word_at(words, 0, 1),
             pause: word_at(words, 0, 2),
         },
-        place: Step::get(words, 8),
+        place: Standing::get(words, 8),
         block,
         actions: joined(word_at(words, 0, 3), word_at(words, 0, 4)) as u64,
         micros: joined(word_at(words, 0, 5), word_at(words, 0, 6)) as u64,
@@ -55,7 +56,7 @@ pub fn hold(c: Conversation) -> Held
     ensures read_back { held_by result ≡ c }
     ensures held { is_held result ≡ true }
 {
-    let mut words = [0u32; 67];
+    let mut words = [0u32; 68];
     put_conversation(&mut words, c);
     let block = c.block;
     Held { words, block }
@@ -74,7 +75,7 @@ pub fn taken(h: Held) -> Option<Conversation>
     ensures { pick (is_held h) (Some (held_by h)) None ≡ result }
 {
     let c = read_held(h);
-    let mut own = [0u32; 67];
+    let mut own = [0u32; 68];
     put_conversation(&mut own, c);
     if own == h.words { Some(c) } else { None }
 }

@@ -5,11 +5,11 @@
 pub mod held;
 pub mod port;
 
-ghost use Rattle.std.specs.Prelude.{◌≡◌, ◌-◌, drop, length};
+ghost use Rattle.std.specs.Prelude.{◌≡◌, ◌-◌, ℕ, List, [], drop, length};
 ghost use Rattle.trace.specs.Operation.{by_name};
 ghost use Rattle.hardware.specs.Numbers.{misuse_number};
 ghost use Rattle.hardware.specs.declared.Misuse.TheVariants.{Unknown};
-ghost use Rattle.border.specs.Border.{stayed, nothing, outcome_of, begins, opens, steps, asks, none, answer, saying, no_answer, answers, answered_of, not_run, runs, ran_of};
+ghost use Rattle.border.specs.Border.{stayed, nothing, outcome_of, begins, block_of, opens, steps, asks, none, answer, saying, no_answer, answers, answered_of, not_run, runs, ran_of};
 ghost use Rattle.border.specs.Port.{port_of};
 
 use crate::held::{Held, hold, taken};
@@ -17,9 +17,9 @@ use crate::port::port_of;
 use answers::Value;
 use answers::fields::{Fields, error_fields, error_number, fields_of};
 use conversation::conversation::Conversation;
-use conversation::run::run;
+use conversation::run::run_lent;
 use drive::{kind_of, register_of, value_of};
-use hardware::{Error, Misuse, Port, Step, Stop};
+use hardware::{Error, Misuse, Port, Stop};
 use operations::Operation;
 use trace::operation::named;
 
@@ -67,14 +67,14 @@ pub struct Ran {
 
 // Words that are no conversation, for a call that begins none.
 const NOTHING: Held = Held {
-    words: [0; 67],
+    words: [0; 68],
     block: [0; 80],
 };
 
 // Begins an operation that is not turned away, with the words that are lent to it.
 #[tactic(auto, using(crate::proofs::Laws::error_number_lem), unfolding(crate::specs::Border::opens, crate::specs::Border::outcome_of))]
 fn open(port: Port, what: Operation, block: &[u32]) -> Stepped
-    ensures { outcome_of result.number result.to ≡ opens port what block.now }
+    ensures { outcome_of result.number result.to block.now ≡ opens port what block.now }
 {
     match what.refused(port, block) {
         Err(e) => Stepped {
@@ -90,7 +90,7 @@ fn open(port: Port, what: Operation, block: &[u32]) -> Stepped
 
 // The words that are lent are the last n arguments, or all of them.
 fn begin_at(port: Port, what: Operation, arguments: &[u32], n: usize) -> Stepped
-    ensures { outcome_of result.number result.to ≡ opens port what (drop (length arguments.now - n) arguments.now) }
+    ensures { outcome_of result.number result.to (drop (length arguments.now - n) arguments.now) ≡ opens port what (drop (length arguments.now - n) arguments.now) }
 {
     open(port, what, &arguments[arguments.len().saturating_sub(n)..])
 }
@@ -98,7 +98,7 @@ fn begin_at(port: Port, what: Operation, arguments: &[u32], n: usize) -> Stepped
 // No such family, device or operation, or arguments that are not the operation's.
 #[tactic(auto, unfolding(crate::specs::Border::outcome_of))]
 fn none_begun() -> Stepped
-    ensures { outcome_of result.number result.to ≡ stayed (misuse_number Unknown) nothing }
+    ensures { (ws : List ℕ) → outcome_of result.number result.to ws ≡ stayed (misuse_number Unknown) nothing }
 {
     Stepped {
         number: Misuse::Unknown.number(),
@@ -106,7 +106,8 @@ fn none_begun() -> Stepped
     }
 }
 
-// Begins the operation of this name, with the arguments of the tracer's second line.
+// Begins the operation of this name, with the arguments of the tracer's second line. The words of a command above 16 are to be lent
+// to each step and run.
 pub fn mansruoy_begin(
     family: u32,
     device: u32,
@@ -115,7 +116,7 @@ pub fn mansruoy_begin(
     name: &[u8],
     arguments: &[u32],
 ) -> Stepped
-    ensures { outcome_of result.number result.to ≡ begins (port_of family device lan pause) (by_name name.now arguments.now) arguments.now }
+    ensures { outcome_of result.number result.to (block_of (by_name name.now arguments.now) arguments.now) ≡ begins (port_of family device lan pause) (by_name name.now arguments.now) arguments.now }
 {
     let Some(port) = port_of(family, device, lan, pause) else {
         return none_begun();
@@ -145,9 +146,9 @@ pub fn mansruoy_action(c: Held) -> Asked
     let Some(own) = taken(c) else {
         return no_action(Misuse::NotHeld.number());
     };
-    match own.place {
-        Step::Done(_) => no_action(Stop::AfterEnd.number()),
-        Step::Ask(a, _) => Asked {
+    match own.asked() {
+        None => no_action(Stop::AfterEnd.number()),
+        Some(a) => Asked {
             number: 0,
             kind: kind_of(a),
             register: register_of(a),
@@ -157,9 +158,17 @@ pub fn mansruoy_action(c: Held) -> Asked
 }
 
 // One action is answered with a reply's two words.
-#[tactic(auto, unfolding(crate::specs::Border::steps, crate::specs::Border::outcome_of))]
 pub fn mansruoy_step(c: Held, kind: u32, value: u32) -> Stepped
-    ensures { outcome_of result.number result.to ≡ steps c kind value }
+    ensures { outcome_of result.number result.to [] ≡ steps c kind value [] }
+{
+    let mut none = [0u32; 0];
+    mansruoy_step_lent(c, kind, value, &mut none)
+}
+
+// The same, where the command's words are lent.
+#[tactic(auto, unfolding(crate::specs::Border::steps, crate::specs::Border::outcome_of))]
+pub fn mansruoy_step_lent(c: Held, kind: u32, value: u32, words: &mut [u32]) -> Stepped
+    ensures { outcome_of result.number result.to words.new ≡ steps c kind value words.old }
 {
     let Some(own) = taken(c) else {
         return Stepped {
@@ -167,7 +176,7 @@ pub fn mansruoy_step(c: Held, kind: u32, value: u32) -> Stepped
             to: c,
         };
     };
-    let s = own.step(kind, value);
+    let s = own.step_lent(kind, value, words);
     match s.stop.number() {
         0 => Stepped {
             number: 0,
@@ -222,12 +231,9 @@ pub fn mansruoy_answer(c: Held) -> Answered
     let Some(of) = taken(c) else {
         return no_answer(Misuse::NotHeld.number(), 0, 0);
     };
-    match of.place {
-        Step::Ask(_, _) => no_answer(Misuse::NotEnded.number(), of.actions, of.micros),
-        Step::Done(ended) => {
-            let words = usize::min(ended.words, 80);
-            answer_words(ended.answer, words, of.actions, of.micros)
-        }
+    match of.answer() {
+        None => no_answer(Misuse::NotEnded.number(), of.actions, of.micros),
+        Some(answer) => { answer_words(answer.what, answer.words, answer.actions, answer.micros) },
     }
 }
 
@@ -244,16 +250,30 @@ fn not_run(number: u32, c: Held, at: usize) -> Ran
 }
 
 // Runs a conversation over a script of replies, into a transcript from place `at` on.
-#[tactic(auto, using(calls::proofs::Laws::ended_keeps, calls::proofs::Laws::bad_keeps), unfolding(crate::specs::Border::runs, crate::specs::Border::ran_of))]
 pub fn mansruoy_run(c: Held, replies: &[u32], transcript: &mut [u32], at: usize) -> Ran
-    ensures { ran_of result transcript.new ≡ runs c replies.now transcript.old at }
+    ensures { ran_of result [] transcript.new ≡ runs c replies.now transcript.old at [] }
+{
+    let mut none = [0u32; 0];
+    mansruoy_run_lent(c, replies, transcript, at, &mut none)
+}
+
+// The same, where the command's words are lent.
+#[tactic(auto, using(calls::proofs::Laws::ended_keeps, calls::proofs::Laws::bad_keeps, calls::proofs::Laws::words_keep), unfolding(crate::specs::Border::runs, crate::specs::Border::ran_of))]
+pub fn mansruoy_run_lent(
+    c: Held,
+    replies: &[u32],
+    transcript: &mut [u32],
+    at: usize,
+    words: &mut [u32],
+) -> Ran
+    ensures { ran_of result words.new transcript.new ≡ runs c replies.now transcript.old at words.old }
 {
     let Some(own) = taken(c) else {
         return not_run(Misuse::NotHeld.number(), c, at);
     };
-    let r = run(own, replies, transcript, at);
+    let r = run_lent(own, replies, transcript, at, words);
     match r.stop {
-        Stop::AfterEnd | Stop::BadReply => not_run(r.stop.number(), c, at),
+        Stop::AfterEnd | Stop::BadReply | Stop::Words => not_run(r.stop.number(), c, at),
         _ => Ran {
             number: r.stop.number(),
             to: hold(r.to),

@@ -18,7 +18,7 @@ use Rattle.operations.specs.Operations.{operation}
 use Rattle.operations.specs.declared.Operation.{Operation}
 use Rattle.operations.specs.declared.Operation.TheVariants.{Veto, Command, Probe, ReadReg, MdioList, KrRead, KrWrite, KrModify, Poll}
 use Rattle.answers.specs.declared.Internal.TheVariants.{Ixfi}
-use Rattle.calls.specs.Conversation.{Conv, begun, opening}
+use Rattle.calls.specs.Conversation.{Conv, begun, to_lend, opening}
 
 -- a port of lan 0
 abbrev port : Family → ℕ → Port
@@ -62,15 +62,32 @@ abbrev words : ℕ → List ℕ
 words zero = []
 words (suc n) = 0 ∷ words n
 
--- a host block of 16 words
+-- a host block of 16 words, which the conversation keeps, and of 17, which are lent to each step
 block_16 : begun at552 Command (words 16) ≡ opening at552 (operation at552 Command (words 16))
 unfolding refusal request
 block_16 = refl
 
--- and of 17
-block_17 : begun at552 Command (words 17) ≡ refused at552 Block
+kept_16 : to_lend at552 Command (words 16) ≡ 0
 unfolding refusal request
-block_17 = refl
+kept_16 = refl
+
+lent_17 : to_lend at552 Command (words 17) ≡ 17
+unfolding refusal request
+lent_17 = refl
+
+-- of 448, as many as the host interface's buffer has
+block_448 : begun at552 Command (words 448) ≡ opening at552 (operation at552 Command (words 448))
+unfolding refusal request
+block_448 = refl
+
+lent_448 : to_lend at552 Command (words 448) ≡ 448
+unfolding refusal request
+lent_448 = refl
+
+-- and of 449
+block_449 : begun at552 Command (words 449) ≡ refused at552 Block
+unfolding refusal request
+block_449 = refl
 
 -- a list of 64 pairs of device 1 and register 2, and of 65
 abbrev pairs : ℕ → List ℕ
@@ -197,7 +214,7 @@ kr_before_pause : begun (paused 0) (KrRead 0x10000) [] ≡ refused (paused 0) Kr
 unfolding refusal request
 kr_before_pause = refl
 
-block_before_pause : begun (paused 0) Command (words 17) ≡ refused (paused 0) Block
+block_before_pause : begun (paused 0) Command (words 449) ≡ refused (paused 0) Block
 unfolding refusal request
 block_before_pause = refl
 

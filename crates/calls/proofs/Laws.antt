@@ -5,11 +5,11 @@ use lib.Seq.{sets, length-sets}
 use Rattle.hardware.specs.declared.Port.{Port}
 use Rattle.hardware.specs.declared.Action.{Action}
 use Rattle.drive.specs.Act.{uses, words, reply_for}
-use Rattle.std.specs.Prelude.{Result, Err}
+use Rattle.std.specs.Prelude.{Result, Err, Option, None, Some}
 use Rattle.hardware.specs.declared.Stop.{Stop}
 use Rattle.drive.specs.Moves.{Tape, on_tape, Moves, stays, goes, Acts, ActsBy}
 use Rattle.drive.proofs.Laws.{by}
-use Rattle.calls.specs.Conversation.{Conv, conv, gone, refuses, step_talk}
+use Rattle.calls.specs.Conversation.{Conv, conv, Step, gone, refuses, why_not, goes_on, step_on, step_talk, unlent_step, step_lent}
 use Rattle.reference.specs.Out.{Out}
 use Rattle.calls.specs.Run.{
   Run,
@@ -26,9 +26,17 @@ use Rattle.calls.specs.Run.{
   refused_run,
   run_from,
   run_all,
+  unlent_run,
+  run_lent,
 }
 use Rattle.calls.specs.Session.{run_of}
-use Rattle.hardware.specs.declared.Stop.TheVariants.{Done, AfterEnd, BadReply, NoReply, NoRoom}
+use Rattle.hardware.specs.declared.Stop.TheVariants.{Done, AfterEnd, BadReply, Words, NoReply, NoRoom}
+
+stop_is : (s t : Stop) → ◌≡◌ {A = Option Stop} (Some s) (Some t) → s ≡ t
+stop_is s t e = cc
+
+no_stop : {s : Stop} → ◌≡◌ {A = Option Stop} None (Some s) → ⊥
+no_stop e = let z : ◌≡◌ {A = ℕ} 0 1 = cc in absurd (omega arith)
 
 -- a step of a conversation that asks for an action
 module _ (c : Conv) (kind value : ℕ) {a : Action} {k : Reply → Talk Out} (e : c.talk ≡ ask a k) where
@@ -37,6 +45,45 @@ module _ (c : Conv) (kind value : ℕ) {a : Action} {k : Reply → Talk Out} (e 
 
   pub step_done : {r : Reply} {to : Conv} → refuses a kind ≡ false → reply_for a (kind ∷ value ∷ []) ≡ r → to ≡ gone c a (k r) → record { stop = Done; to = to } ≡ step_talk c kind value
   step_done h er eto = rw (e, eto, ← er, h)
+
+-- the same where words may have to be lent
+module _ (lent : Bool) (c : Conv) (kind value : ℕ) where
+  pub step_over : goes_on c.talk ≡ false → record { stop = AfterEnd; to = c } ≡ step_lent lent c kind value
+  step_over h = go lent c.talk h
+    where
+      go : (l : Bool) (t : Talk Out) → goes_on t ≡ false → record { stop = AfterEnd; to = c } ≡ pick l (step_on t c kind value) (unlent_step t c kind)
+      go true (end r) h = refl
+      go false (end r) h = refl
+      go l (ask a k) h = absurd (true≢false h)
+
+  module _ {a : Action} {k : Reply → Talk Out} (e : c.talk ≡ ask a k) where
+    abbrev by_why : Bool → Bool → Conv → Step
+    by_why l b did =
+        pick l (pick b (record { stop = BadReply; to = c }) (record { stop = Done; to = did }))
+        (pick b (record { stop = BadReply; to = c }) (record { stop = Words; to = c }))
+
+    why : by_why lent (refuses a kind) (gone c a (k (reply_for a (kind ∷ value ∷ [])))) ≡ step_lent lent c kind value
+    why = ap (λ (u : Talk Out). pick lent (step_on u c kind value) (unlent_step u c kind)) (sym e)
+
+    pub step_stopped : {s : Stop} → why_not a kind lent ≡ Some s → record { stop = s; to = c } ≡ step_lent lent c kind value
+    step_stopped {s} h = go (refuses a kind) lent _ h ∙ why
+      where
+        go : (b l : Bool) (did : Conv) → pick b (Some BadReply) (pick l None (Some Words)) ≡ Some s → ◌≡◌ {A = Step} (record { stop = s; to = c }) (by_why l b did)
+        go true true did h = ap (λ (x : Stop). record { stop = x; to = c }) (stop_is s BadReply (sym h))
+        go true false did h = ap (λ (x : Stop). record { stop = x; to = c }) (stop_is s BadReply (sym h))
+        go false true did h = absurd (no_stop h)
+        go false false did h = ap (λ (x : Stop). record { stop = x; to = c }) (stop_is s Words (sym h))
+
+    pub step_went : {r : Reply} {to : Conv} → why_not a kind lent ≡ None → reply_for a (kind ∷ value ∷ []) ≡ r → to ≡ gone c a (k r)
+        → record { stop = Done; to = to } ≡ step_lent lent c kind value
+    step_went {r} {to} h er eto =
+        let did : to ≡ gone c a (k (reply_for a (kind ∷ value ∷ []))) = eto ∙ ap (λ (x : Reply). gone c a (k x)) (sym er) in
+        go (refuses a kind) lent h ∙ ap (by_why lent (refuses a kind)) did ∙ why
+      where
+        go : (b l : Bool) → pick b (Some BadReply) (pick l None (Some Words)) ≡ None → ◌≡◌ {A = Step} (record { stop = Done; to = to }) (by_why l b to)
+        go true l h = absurd (no_stop (sym h))
+        go false true h = refl
+        go false false h = absurd (no_stop (sym h))
 
 -- the script's check, two words at a time
 pub bad_short : (rs : List ℕ) → 0 < length rs → length rs < 2 → bad rs ≡ true
@@ -99,6 +146,7 @@ module _ (p : Port) {rs : List ℕ} {m₀ m : Talk Out} {t₀ t : Tape} (q : Mov
         go Done (same, never) = absurd never
         go AfterEnd (same, never) = absurd never
         go BadReply (same, never) = absurd never
+        go Words (same, never) = absurd never
 
 -- a run into the part of a transcript that starts at its write place
 
@@ -153,11 +201,55 @@ module _ (c : Conv) (rs t : List ℕ) (at : ℕ) where
         let room : length t - at < 3 = omega arith in
         run_full c.port stays e room ∙ all_run b
 
+-- the same where words may have to be lent
+
+module _ (lent : Bool) (c : Conv) (rs t : List ℕ) (at : ℕ) where
+  pub run_over : goes_on c.talk ≡ false → refused_run AfterEnd c t at ≡ run_lent lent c rs t at
+  run_over h = go lent c.talk h
+    where
+      go : (l : Bool) (u : Talk Out) → goes_on u ≡ false → refused_run AfterEnd c t at ≡ pick l (run_from u c rs t at) (unlent_run u c rs t at)
+      go true (end r) h = refl
+      go false (end r) h = refl
+      go l (ask a k) h = absurd (true≢false h)
+
+  abbrev by_check : Bool → Bool → Shown
+  by_check l b =
+      pick l (pick b (refused_run BadReply c t at) (run_into c rs t at 0)) (pick b (refused_run BadReply c t at) (refused_run Words c t at))
+
+  checked : goes_on c.talk ≡ true → by_check lent (bad rs) ≡ run_lent lent c rs t at
+  checked h = go c.talk h
+    where
+      go : (u : Talk Out) → goes_on u ≡ true → by_check lent (bad rs) ≡ pick lent (run_from u c rs t at) (unlent_run u c rs t at)
+      go (end r) h = absurd (true≢false (sym h))
+      go (ask a k) h = refl
+
+  module _ (on : goes_on c.talk ≡ true) where
+    pub run_bad : bad rs ≡ true → refused_run BadReply c t at ≡ run_lent lent c rs t at
+    run_bad b = go lent ∙ ap (by_check lent) (sym b) ∙ checked on
+      where
+        go : (l : Bool) → refused_run BadReply c t at ≡ by_check l true
+        go true = refl
+        go false = refl
+
+    pub run_unlent : bad rs ≡ false → lent ≡ false → refused_run Words c t at ≡ run_lent lent c rs t at
+    run_unlent b l = sym (ap (by_check lent) b ∙ ap (λ (x : Bool). by_check x false) l) ∙ checked on
+
+    pub run_taken : bad rs ≡ false → lent ≡ true → run_into c rs t at 0 ≡ run_lent lent c rs t at
+    run_taken b l = sym (ap (by_check lent) b ∙ ap (λ (x : Bool). by_check x false) l) ∙ checked on
+
+    pub run_shut : bad rs ≡ false → lent ≡ true → length t < at → refused_run NoRoom c t at ≡ run_lent lent c rs t at
+    run_shut b l h = go c.talk refl on ∙ run_taken b l
+      where
+        go : (u : Talk Out) → c.talk ≡ u → goes_on u ≡ true → refused_run NoRoom c t at ≡ run_into c rs t at 0
+        go (end r) e h = absurd (true≢false (sym h))
+        go (ask a k) e on = let room : length t - at < 3 = omega arith in run_full c.port stays e room
+
 -- ---- a run that is refused leaves the transcript
 
 abbrev is_refusal : Stop → Bool
 is_refusal AfterEnd = true
 is_refusal BadReply = true
+is_refusal Words = true
 is_refusal _ = false
 
 run_goes : {A : Type 0} (m : Talk A) (rs : List ℕ) (room : ℕ) → is_refusal (run_talk m rs room).stop ≡ false
@@ -186,11 +278,34 @@ module _ (c : Conv) (rs t : List ℕ) (at : ℕ) where
       by_talk (end r) h e = refl
       by_talk (ask a k) h e = by_bad (bad rs) h e
 
-  pub ended_keeps : (run_all c rs t at).stop ≡ AfterEnd → (run_all c rs t at).tape.transcript ≡ t
-  ended_keeps e = refused_keeps (ap is_refusal e)
+-- the same where words may have to be lent
+module _ (lent : Bool) (c : Conv) (rs t : List ℕ) (at : ℕ) where
+  unlent_keeps : (unlent_run c.talk c rs t at).tape.transcript ≡ t
+  unlent_keeps = by_talk c.talk
+    where
+      by_bad : (b : Bool) → (pick b (refused_run BadReply c t at) (refused_run Words c t at)).tape.transcript ≡ t
+      by_bad true = refl
+      by_bad false = refl
 
-  pub bad_keeps : (run_all c rs t at).stop ≡ BadReply → (run_all c rs t at).tape.transcript ≡ t
-  bad_keeps e = refused_keeps (ap is_refusal e)
+      by_talk : (m : Talk Out) → (unlent_run m c rs t at).tape.transcript ≡ t
+      by_talk (end r) = refl
+      by_talk (ask a k) = by_bad (bad rs)
+
+  lent_keeps : is_refusal (run_lent lent c rs t at).stop ≡ true → (run_lent lent c rs t at).tape.transcript ≡ t
+  lent_keeps = go lent
+    where
+      go : (l : Bool) → is_refusal (run_lent l c rs t at).stop ≡ true → (run_lent l c rs t at).tape.transcript ≡ t
+      go true h = refused_keeps c rs t at h
+      go false h = unlent_keeps
+
+  pub ended_keeps : (run_lent lent c rs t at).stop ≡ AfterEnd → (run_lent lent c rs t at).tape.transcript ≡ t
+  ended_keeps e = lent_keeps (ap is_refusal e)
+
+  pub bad_keeps : (run_lent lent c rs t at).stop ≡ BadReply → (run_lent lent c rs t at).tape.transcript ≡ t
+  bad_keeps e = lent_keeps (ap is_refusal e)
+
+  pub words_keep : (run_lent lent c rs t at).stop ≡ Words → (run_lent lent c rs t at).tape.transcript ≡ t
+  words_keep e = lent_keeps (ap is_refusal e)
 
 -- the actions done, on the conversation's tape, say all that `run` shows
 pub all_shown : (c : Conv) (rs t : List ℕ) (at : ℕ)

@@ -1,6 +1,6 @@
 -- A conversation: what it says from here on, and its counts
 use Rattle.hardware.specs.Talk.{Talk, ask, end, Res, pick}
-use Rattle.std.specs.Prelude.{ℕ, ◌+◌, ◌%◌, ◌^◌, Bool, false, List, [], ◌∷◌, length, ◌==◌, nat_lt, Err, Ok, Option, None, Some}
+use Rattle.std.specs.Prelude.{ℕ, ◌+◌, ◌%◌, ◌^◌, Bool, true, false, List, [], ◌∷◌, length, ◌==◌, nat_lt, ltb, Err, Ok, Option, None, Some}
 use Rattle.hardware.specs.Bound.{waited}
 use Rattle.hardware.specs.declared.Action.{Action}
 use Rattle.hardware.specs.declared.Port.{Port}
@@ -12,7 +12,7 @@ use Rattle.reference.specs.Out.{Out}
 use Rattle.operations.specs.Operations.{operation}
 use Rattle.arguments.specs.declared.Left.{Left}
 use Rattle.arguments.specs.declared.Watch.{Watch}
-use Rattle.operations.specs.Request.{refused}
+use Rattle.operations.specs.Request.{request, refused}
 use Rattle.operations.specs.declared.Operation.{Operation}
 use Rattle.hardware.specs.declared.Stop.{Stop}
 use Rattle.hardware.specs.declared.Stop.TheVariants as stop
@@ -39,6 +39,17 @@ started t (Ok u) = t
 abbrev pub begun : Port → Operation → List ℕ → Conv
 begun port what ws = opening port (started (operation port what ws) (refused port what ws))
 
+-- a conversation keeps up to 16 words itself; of a longer command each step is to be lent so many words
+abbrev pub kept_words : ℕ
+kept_words = 16
+
+abbrev pub lends : Res (Unit {0}) → ℕ → ℕ
+lends (Err e) n = 0
+lends (Ok u) n = pick (ltb kept_words n) n 0
+
+abbrev pub to_lend : Port → Operation → List ℕ → ℕ
+to_lend port what ws = lends (refused port what ws) (request port what ws).words
+
 -- one action is done, and the conversation goes on as t. The code's counts wrap at 2 ^ 64, which nothing begun comes near
 abbrev pub gone : Conv → Action → Talk Out → Conv
 gone c a t = conv c.port t ((c.actions + 1) % 2 ^ 64) ((c.micros + waited a) % 2 ^ 64)
@@ -61,6 +72,23 @@ step_on (ask a k) c kind value =
 
 abbrev pub step_talk : Conv → ℕ → ℕ → Step
 step_talk c kind value = step_on c.talk c kind value
+
+-- why an action is not done: 25 for a kind above 1, then 23 where another number of words is lent than is to be
+abbrev pub why_not : Action → ℕ → Bool → Option Stop
+why_not a kind lent = pick (refuses a kind) (Some stop.BadReply) (pick lent None (Some stop.Words))
+
+abbrev pub goes_on : Talk Out → Bool
+goes_on (end r) = false
+goes_on (ask a k) = true
+
+-- a step that is lent another number of words than its conversation remembers: 24 and 25 as of any, else 23
+abbrev pub unlent_step : Talk Out → Conv → ℕ → Step
+unlent_step (end r) c kind = record { stop = stop.AfterEnd; to = c }
+unlent_step (ask a k) c kind = pick (refuses a kind) (record { stop = stop.BadReply; to = c }) (record { stop = stop.Words; to = c })
+
+-- `lent`: whether they are as many
+abbrev pub step_lent : Bool → Conv → ℕ → ℕ → Step
+step_lent lent c kind value = pick lent (step_talk c kind value) (unlent_step c.talk c kind)
 
 -- the action that is due, none after the end
 abbrev pub asked_of : Talk Out → Option Action
@@ -90,6 +118,10 @@ given ws block = pick (length block == length ws) (Ok tt, ws) (Err Block, block)
 abbrev pub handed_back : Talk Out → List ℕ → Res (Unit {0}) × List ℕ
 handed_back (end r) block = given r.1 block
 handed_back (ask a k) block = (Err Block, block)
+
+-- the same of one that remembers how many words are lent (`lent`: whether they are as many): another number is 23
+abbrev pub handed_lent : Bool → Talk Out → List ℕ → Res (Unit {0}) × List ℕ
+handed_lent lent t block = pick lent (handed_back t block) (Err Block, block)
 
 -- what a poll that ended well leaves in its Watch
 abbrev pub left_by : Value → Left → Left

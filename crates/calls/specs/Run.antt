@@ -8,7 +8,7 @@ use Rattle.drive.specs.Moves.{Tape, on_tape}
 use Rattle.calls.specs.Conversation.{Conv}
 use Rattle.reference.specs.Out.{Out}
 use Rattle.hardware.specs.declared.Stop.{Stop}
-use Rattle.hardware.specs.declared.Stop.TheVariants.{Done, AfterEnd, BadReply, NoReply, NoRoom}
+use Rattle.hardware.specs.declared.Stop.TheVariants.{Done, AfterEnd, BadReply, Words, NoReply, NoRoom}
 
 -- a run: the actions that were done, in order, what is still to be said, and why it stopped
 pub record Run (A : Type 0) : Type 0 where
@@ -80,3 +80,12 @@ run_from (ask a k) c rs t at = pick (bad rs) (refused_run BadReply c t at) (run_
 -- `run`: 24, then 25, then the run
 abbrev pub run_all : Conv → List ℕ → List ℕ → ℕ → Shown
 run_all c rs t at = run_from c.talk c rs t at
+
+-- one that is lent another number of words than its conversation remembers: 24 and 25 as of any, else 23
+abbrev pub unlent_run : Talk Out → Conv → List ℕ → List ℕ → ℕ → Shown
+unlent_run (end r) c rs t at = refused_run AfterEnd c t at
+unlent_run (ask a k) c rs t at = pick (bad rs) (refused_run BadReply c t at) (refused_run Words c t at)
+
+-- `lent`: whether they are as many
+abbrev pub run_lent : Bool → Conv → List ℕ → List ℕ → ℕ → Shown
+run_lent lent c rs t at = pick lent (run_all c rs t at) (unlent_run c.talk c rs t at)

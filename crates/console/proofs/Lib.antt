@@ -1,3 +1,4 @@
+pub mod BeginLaws
 pub mod TurnLaws
 pub mod AheadLaws
 pub mod TalkLaws

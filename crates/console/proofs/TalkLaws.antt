@@ -4,10 +4,6 @@ use Rattle.std.specs.Option.{unwrap_or}
 use Rattle.hardware.specs.Numbers.{stop_number}
 use Rattle.hardware.specs.declared.Action.{Action}
 use Rattle.hardware.specs.declared.Stop.TheVariants.{AfterEnd}
-use Rattle.hardware.specs.declared.Step.TheVariants as step
-use Rattle.jobs.specs.declared.job.Ended.{Ended}
-use Rattle.answers.specs.declared.Value.{Value}
-use Rattle.started.specs.declared.operation.Op.{Op}
 use Rattle.hardware.specs.declared.Port.{Port}
 use Rattle.trace.specs.declared.operation.OperationLine.{OperationLine}
 use Rattle.streams.specs.Input.{Fetches}
@@ -20,8 +16,7 @@ use Rattle.lines.specs.Port.{port_of}
 use Rattle.streams.specs.Part.{line_of}
 use Rattle.console.specs.Opened.{Opened, Listing}
 use Rattle.calls.specs.Conversation.{asked_of}
-use Rattle.conversation.specs.Conversation.{conv_of}
-use Rattle.conversation.specs.declared.conversation.Conversation as code
+use Rattle.console.specs.Moved.{conv_at, behind}
 use Rattle.streams.specs.Due.{number, Due}
 use Rattle.streams.specs.Output.{Prints}
 use Rattle.streams.specs.declared.input.Input.{Input}
@@ -34,36 +29,33 @@ use Rattle.console.specs.Ending.{last_text}
 use Rattle.console.specs.Talk.{Acted, Onward, Talks, Turns, Listed}
 use Rattle.console.specs.Talk.Onward.{ended, stopped, acted}
 use Rattle.console.specs.Talk.Talks.{begins, goes_on}
-use Rattle.console.specs.declared.ahead.Moved.{Moved}
-
-asks : (c : code.Conversation) {a : Action} {op : Op} → c.place ≡ step.Ask a op → asked_of (conv_of c).talk ≡ Some a
-asks c e = rw e refl
-
-asks_none : (c : code.Conversation) {e : Ended Value} → c.place ≡ step.Done e → asked_of (conv_of c).talk ≡ None
-asks_none c e = rw e refl
+use Rattle.console.specs.declared.moved.Moved.{Moved}
 
 -- ---- a turn, and what it prints
 
-pub turn_ended : {from : Moved} {old : List ℕ} {known : Option (List ℕ)} {waiting : List ℕ} {e : Ended Value} {n : ℕ} → from.to.place ≡ step.Done e
-    → stop_number AfterEnd ≡ n → (text : List ℕ) × Onward from old old text from (Some n) × Prints known waiting text known waiting
-turn_ended {from} {old} e h = ([], subst (λ (n : ℕ). Onward from old old [] from (Some n)) h (ended (asks_none from.to e) refl), prints_none)
+pub turn_ended : {from : Moved} {old : List ℕ} {known : Option (List ℕ)} {waiting : List ℕ} {r : Option Action} {n : ℕ} → r ≡ None
+    → asked_of (conv_at from).talk ≡ r → stop_number AfterEnd ≡ n
+    → (text : List ℕ) × Onward from old old text from (Some n) × Prints known waiting text known waiting
+turn_ended {from} {old} e asks h =
+    ([], subst (λ (n : ℕ). Onward from old old [] from (Some n)) h (ended (asks ∙ e) refl), prints_none)
 
 module _ {from : Moved} {old new : List ℕ} {known : Option (List ℕ)} {waiting : List ℕ} where
-  module _ {a : Action} {op : Op} {r : Answered} (e : from.to.place ≡ step.Ask a op) (d : Due a old from.input new r) where
+  module _ {a : Action} {asked : Option Action} {r : Answered} (e : asked ≡ Some a) (asks : asked_of (conv_at from).talk ≡ asked)
+      (d : Due a old from.input new r) where
     pub turn_stopped : {fault : Fault} {n : ℕ} → r.due ≡ Err fault → number fault ≡ n
-        → (text : List ℕ) × Onward from old new text (record { to = from.to; input = r.input }) (Some n) × Prints known waiting text known waiting
+        → (text : List ℕ) × Onward from old new text (behind from r.input) (Some n) × Prints known waiting text known waiting
     turn_stopped f h =
         let due = subst (λ d. Due a old from.input new (record { due = d; input = r.input })) f d in
-        ([], subst (λ (n : ℕ). Onward from old new [] (record { to = from.to; input = r.input }) (Some n)) h (stopped (asks from.to e) due), prints_none)
+        ([], subst (λ (n : ℕ). Onward from old new [] (behind from r.input) (Some n)) h (stopped (asks ∙ e) due), prints_none)
 
     pub turn_acted : {reply : Option (ℕ × ℕ)} {pair : ℕ × ℕ} {one to : Moved} {mid last : Option (List ℕ)} {then left : List ℕ}
-        → r.due ≡ Ok reply → pair ≡ unwrap_or reply (0, 0) → Acted (conv_of from.to) pair r.input one → Ahead one new to
-        → Prints known waiting (printed (ran_three (conv_of from.to) (pair.0 ∷ pair.1 ∷ []))) mid then
+        → r.due ≡ Ok reply → pair ≡ unwrap_or reply (0, 0) → Acted (behind from r.input) pair one → Ahead one new to
+        → Prints known waiting (printed (ran_three from (pair.0 ∷ pair.1 ∷ []))) mid then
         → Prints mid then (printed (ran_from one new)) last left
         → (text : List ℕ) × Onward from old new text to None × Prints known waiting text last left
     turn_acted f h one ahead p q =
         let due = subst (λ d. Due a old from.input new (record { due = d; input = r.input })) f d in
-        (_, acted (asks from.to e) due h one ahead, prints_on p q)
+        (_, acted (asks ∙ e) due h one ahead, prints_on p q)
 
 -- ---- turns in order
 
@@ -100,7 +92,7 @@ module _ {from : Moved} {old : List ℕ} {known : Option (List ℕ)} {waiting : 
   pub listed : {E : Type 0} {to : Moved} {number : Option ℕ} {new : List ℕ} {then : Option (List ℕ)} {waits : List ℕ} (r : Result Input E)
       (asked : Bool) (last : Option (List ℕ)) (left : List ℕ)
       → Went from old (2 ^ 64 - 1) to number new known waiting then waits → IfOk r (λ rest. rest ≡ to.input)
-      → OnOk r (Prints then waits (last_text to.to number asked) last left)
+      → OnOk r (Prints then waits (last_text to number asked) last left)
       → IfOk r (λ rest. (text : List ℕ) × Listed from old new asked text rest × Prints known waiting text last left)
   listed (Err e) asked last left w h p = tt
   listed {to = to} {number} (Ok rest) asked last left w h p =

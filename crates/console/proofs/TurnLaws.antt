@@ -4,11 +4,15 @@ use mathlib.Core.Path.{◌≡◌, ap, ◌∙◌}
 use mathlib.Core.List.{List, [], ◌∷◌, append-nil}
 use native.Mathlib.Omega.{arith}
 use lib.ListN.{length, get_or, take}
-use Rattle.calls.specs.Conversation.{Conv}
+use Rattle.conversation.specs.Conversation.{conv_of}
+use Rattle.started.specs.Standing.{lent_of}
+use Rattle.console.specs.Moved.{words_in, conv_at, lent_at}
+use Rattle.console.specs.declared.moved.Moved.{Moved}
 use Rattle.calls.specs.Run.{Shown, left}
 use Rattle.conversation.specs.Run.{shown_of}
 use Rattle.conversation.specs.declared.run.Ran.{Ran}
-use Rattle.calls.proofs.Theorems.{Placed, placed}
+use Rattle.calls.proofs.Theorems.{Placed}
+use Rattle.console.proofs.AheadLaws.{placed_lent}
 use Rattle.lines.specs.Listing.{action_text, lines_text}
 use Rattle.console.specs.Turn.{ran_three, Turn}
 
@@ -18,32 +22,36 @@ three (a ∷ []) h = absurd (omega arith)
 three (a ∷ b ∷ []) h = absurd (omega arith)
 three (a ∷ b ∷ c ∷ l) h = append-nil (action_text a b c)
 
-module _ (c : Conv) (rs : List ℕ) (r : Ran) (t : List ℕ) (e : shown_of r t ≡ ran_three c rs) where
-  put_down : Placed (ran_three c rs) (0 ∷ 0 ∷ 0 ∷ []) 0
-  put_down = placed c rs (0 ∷ 0 ∷ 0 ∷ []) 0
+module _ (from : Moved) (rs : List ℕ) (r : Ran) (lent t : List ℕ) (same : lent_of r.to.place ≡ lent_of from.to.place)
+    (e : shown_of r (words_in from.to lent) t ≡ ran_three from rs) where
+  put_down : Placed (ran_three from rs) (0 ∷ 0 ∷ 0 ∷ []) 0
+  put_down = placed_lent (lent_at from) (conv_at from) rs (0 ∷ 0 ∷ 0 ∷ []) 0
 
-  at_same : r.at ≡ (ran_three c rs).tape.at
+  at_same : r.at ≡ (ran_three from rs).tape.at
   at_same = ap (λ (s : Shown). s.tape.at) e
 
-  text_same : t ≡ (ran_three c rs).tape.transcript
+  text_same : t ≡ (ran_three from rs).tape.transcript
   text_same = ap (λ (s : Shown). s.tape.transcript) e
 
-  pub turned_none : {line : List ℕ} → line ≡ [] → r.at ≡ 0 → Turn c rs (record { stop = r.stop; to = r.to }) line
+  there : conv_of r.to (words_in r.to lent) ≡ left (ran_three from rs)
+  there = ap (λ (k : ℕ). conv_of r.to (take k lent)) same ∙ ap left e
+
+  pub turned_none : {line : List ℕ} → line ≡ [] → r.at ≡ 0 → Turn from rs (record { stop = r.stop; to = r.to; words = lent }) line
   turned_none none h =
       record {
         stop = ap (λ (s : Shown). s.stop) e;
-        to = ap left e;
+        to = there;
         text = rw (← at_same, h) none;
       }
 
   pub turned_one : {line : List ℕ} → (r.at ≡ 0 → ⊥) → line ≡ action_text (get_or t 0 0) (get_or t 1 0) (get_or t 2 0)
-      → Turn c rs (record { stop = r.stop; to = r.to }) line
+      → Turn from rs (record { stop = r.stop; to = r.to; words = lent }) line
   turned_one h text =
-      let p : Placed (ran_three c rs) (0 ∷ 0 ∷ 0 ∷ []) 0 = put_down in
+      let p : Placed (ran_three from rs) (0 ∷ 0 ∷ 0 ∷ []) 0 = put_down in
       let all : r.at ≡ 3 = omega (arith, at_same, p.place, p.within) in
       let long : length t ≡ 3 = ap length text_same ∙ p.same_length in
       record {
         stop = ap (λ (s : Shown). s.stop) e;
-        to = ap left e;
+        to = there;
         text = rw (← at_same, all, ← text_same, three t long) text;
       }

@@ -1,3 +1,4 @@
+pub mod Moved
 pub mod Turn
 pub mod Ahead
 pub mod Ending

@@ -1,5 +1,5 @@
 -- A listing from the port's line on
-use Rattle.std.specs.Prelude.{ℕ, ◌≡◌, Bool, List, Option, Some, None, take, drop, replicate}
+use Rattle.std.specs.Prelude.{ℕ, ◌≡◌, Bool, true, List, Option, Some, None, take, drop, replicate}
 use Rattle.std.proofs.lemmas.List.Edits.{sets}
 use Rattle.hardware.specs.declared.Port.{Port}
 use Rattle.text.specs.Words.{words}
@@ -10,7 +10,7 @@ use Rattle.trace.specs.Operation.{operation_of}
 use Rattle.lines.specs.Port.{port_of}
 use Rattle.lines.specs.Listing.{stop_text}
 use Rattle.calls.specs.Conversation.{begun}
-use Rattle.conversation.specs.Conversation.{conv_of}
+use Rattle.console.specs.Moved.{conv_at, lent_at}
 use Rattle.streams.specs.Part.{line_of}
 use Rattle.streams.specs.Due.{number}
 use Rattle.streams.specs.Input.{Fetches}
@@ -18,7 +18,7 @@ use Rattle.streams.specs.declared.due.Fault.TheVariants.{BadLine}
 use Rattle.streams.specs.declared.input.Input.{Input}
 use Rattle.streams.specs.declared.input.Fetched.{Fetched}
 use Rattle.console.specs.Talk.{Listed}
-use Rattle.console.specs.declared.ahead.Moved.{Moved}
+use Rattle.console.specs.declared.moved.Moved.{Moved}
 
 -- one line alone, where a line was missing or cannot be read
 pub record Refused (i : Input) (old new text : List ℕ) (rest : Input) : Type 0 where
@@ -29,7 +29,8 @@ pub record Refused (i : Input) (old new text : List ℕ) (rest : Input) : Type 0
 -- the listing of what `begin` makes
 pub record Begins (port : Port) (what : Operation) (lent : List ℕ) (i : Input) (asked : Bool) (old new text : List ℕ) (rest : Input) : Type 0 where
   pub from : Moved
-  pub begins : conv_of from.to ≡ begun port what lent
+  pub begins : conv_at from ≡ begun port what lent
+  pub has_all : lent_at from ≡ true
   pub there : from.input ≡ i
   pub listed : Listed from old new asked text rest
 

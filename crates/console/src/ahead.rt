@@ -4,20 +4,11 @@ ghost use Rattle.console.specs.Turn.{printed};
 ghost use Rattle.console.specs.Ahead.{ran_from, Ahead};
 ghost use Rattle.streams.specs.Output.{Prints};
 
-use conversation::conversation::Conversation;
-use conversation::run::run;
+use crate::moved::{Moved, run_in};
 use std::io;
 use std::io::Write;
 use streams::batch::{behind_used, first, print_lines, read_ahead};
-use streams::input::Input;
 use streams::output::Waiting;
-
-// The conversation as it is then, and what is left of the input.
-#[derive(Clone, Copy)]
-pub struct Moved {
-    pub to: Conversation,
-    pub input: Input,
-}
 
 pub fn ahead<W: Write>(
     from: Moved,
@@ -32,10 +23,12 @@ pub fn ahead<W: Write>(
     let mut behind = [0usize; 64];
     let mut t = [0u32; 384];
     let count = read_ahead(buf, from.input, &mut words, &mut behind);
-    let ran = run(from.to, first(&words, count), &mut t, 0);
+    let mut lent = from.words;
+    let ran = run_in(from.to, &mut lent, first(&words, count), &mut t);
     print_lines(&t, ran.at, sink, waiting)?;
     Ok(Moved {
         to: ran.to,
+        words: lent,
         input: behind_used(from.input, &behind, ran.used),
     })
 }

@@ -1,11 +1,12 @@
 // What is printed at the conversation's end.
-ghost use Rattle.conversation.specs.Conversation.{conv_of};
-ghost use Rattle.console.specs.Ending.{left_line, ended_text};
+ghost use Rattle.console.specs.Ending.{kept_line, kept_text, lent_text};
 ghost use Rattle.streams.specs.Output.{PrintsAll};
 
+use crate::moved::{Moved, first_words};
 use answers::Value;
 use conversation::conversation::Conversation;
 use hardware::Error;
+use started::standing::command_answer;
 use std::io;
 use std::io::Write;
 use streams::ending::{last, print_left};
@@ -19,7 +20,7 @@ fn left<W: Write>(
     sink: &mut W,
     waiting: &mut Waiting,
 ) -> io::Result<()>
-    ensures { PrintsAll result (W.contents sink.old) waiting.old (left_line (conv_of c) words) (W.contents sink.new) waiting.new }
+    ensures { PrintsAll result (W.contents sink.old) waiting.old (kept_line c words) (W.contents sink.new) waiting.new }
 {
     if words == 0 || words > 64 {
         return Ok(());
@@ -28,7 +29,7 @@ fn left<W: Write>(
     if c.hand_back(&mut host[..words]).is_err() {
         return Ok(());
     }
-    print_left(host, words as u32, sink, waiting)
+    print_left(&host[..words], sink, waiting)
 }
 
 // The last line, and the host block's where it is asked for.
@@ -40,11 +41,38 @@ pub fn ended<W: Write>(
     sink: &mut W,
     waiting: &mut Waiting,
 ) -> io::Result<()>
-    ensures { PrintsAll result (W.contents sink.old) waiting.old (ended_text answer c words asked) (W.contents sink.new) waiting.new }
+    ensures { PrintsAll result (W.contents sink.old) waiting.old (kept_text answer c words asked) (W.contents sink.new) waiting.new }
 {
-    last(answer, c.block, c.actions, c.micros, sink, waiting)?;
+    last(answer, &c.block, c.actions, c.micros, sink, waiting)?;
     if asked {
         return left(c, words, sink, waiting);
+    }
+    Ok(())
+}
+
+// The same of a command whose words were lent: they are where they were lent from.
+pub fn lent_ended<W: Write>(
+    at: Moved,
+    words: u32,
+    status: Result<u32, Error>,
+    asked: bool,
+    sink: &mut W,
+    waiting: &mut Waiting,
+) -> io::Result<()>
+    ensures { PrintsAll result (W.contents sink.old) waiting.old (lent_text at words status asked) (W.contents sink.new) waiting.new }
+{
+    let c = at.to;
+    let lent = first_words(&at.words, words as usize);
+    last(
+        command_answer(words, status),
+        lent,
+        c.actions,
+        c.micros,
+        sink,
+        waiting,
+    )?;
+    if asked {
+        return print_left(lent, sink, waiting);
     }
     Ok(())
 }

@@ -4,5 +4,6 @@
 pub mod ahead;
 pub mod ending;
 pub mod listing;
+pub mod moved;
 pub mod talk;
 pub mod turn;

@@ -1,17 +1,17 @@
 // A conversation that has begun, to its end.
 ghost use Rattle.std.specs.Prelude.{ℕ, ◌≡◌, ◌-◌, ◌^◌, [], ◌∷◌, List, IfOk, OnOk};
-ghost use Rattle.conversation.specs.Conversation.{conv_of};
 ghost use Rattle.console.specs.Turn.{ran_three, printed};
 ghost use Rattle.console.specs.Ending.{last_text};
 ghost use Rattle.console.specs.Talk.{Acted, Onward, Turns, Listed};
 ghost use Rattle.streams.specs.Output.{Prints};
 
-use crate::ahead::{Moved, ahead};
-use crate::ending::ended;
+use crate::ahead::ahead;
+use crate::ending::{ended, lent_ended};
+use crate::moved::Moved;
 use crate::turn::{Turned, turn};
-use conversation::conversation::Conversation;
 use hardware::{Step, Stop};
 use lines::listing::Line;
+use started::standing::Standing;
 use std::io;
 use std::io::{Read, Write};
 use streams::due::{Answered, answer};
@@ -28,19 +28,18 @@ struct Came {
 
 // One action is done, and its line printed.
 fn act<W: Write>(
-    c: Conversation,
-    input: Input,
+    from: Moved,
     pair: (u32, u32),
     sink: &mut W,
     waiting: &mut Waiting,
 ) -> io::Result<Moved>
-    ensures acted { IfOk result (Acted (conv_of c) pair input) }
-    ensures printed { OnOk result (Prints (W.contents sink.old) waiting.old (printed (ran_three (conv_of c) (pair.0 ∷ pair.1 ∷ []))) (W.contents sink.new) waiting.new) }
+    ensures acted { IfOk result (Acted from pair) }
+    ensures printed { OnOk result (Prints (W.contents sink.old) waiting.old (printed (ran_three from (pair.0 ∷ pair.1 ∷ []))) (W.contents sink.new) waiting.new) }
 {
     let mut line = Line::new();
-    let Turned { to, .. } = turn(c, &[pair.0, pair.1], &mut line);
+    let Turned { to, words, .. } = turn(from, &[pair.0, pair.1], &mut line);
     waiting.print(sink, line.as_slice())?;
-    Ok(Moved { to, input })
+    Ok(Moved { to, words, ..from })
 }
 
 // One action, whose reply is fetched; then what the replies in the buffer answer.
@@ -53,7 +52,7 @@ fn onward<R: Read, W: Write>(
 ) -> io::Result<Came>
     ensures { IfOk result (λ came. (text : List ℕ) × (Onward from buf.old buf.new text came.moved came.number) × (Prints (W.contents sink.old) waiting.old text (W.contents sink.new) waiting.new)) }
 {
-    let Step::Ask(a, _) = from.to.place else {
+    let Some(a) = from.to.asked() else {
         return Ok(Came {
             moved: from,
             number: Some(Stop::AfterEnd.number()),
@@ -70,7 +69,7 @@ fn onward<R: Read, W: Write>(
             });
         }
     };
-    let one = act(from.to, input, pair, sink, waiting)?;
+    let one = act(Moved { input, ..from }, pair, sink, waiting)?;
     Ok(Came {
         moved: ahead(one, buf, sink, waiting)?,
         number: None,
@@ -80,17 +79,20 @@ fn onward<R: Read, W: Write>(
 // The last lines; answers what is left of the input.
 fn finish<W: Write>(at: Came, sink: &mut W, waiting: &mut Waiting, asked: bool) -> io::Result<Input>
     ensures rest { IfOk result (λ rest. rest ≡ at.moved.input) }
-    ensures printed { OnOk result (Prints (W.contents sink.old) waiting.old (last_text at.moved.to at.number asked) (W.contents sink.new) waiting.new) }
+    ensures printed { OnOk result (Prints (W.contents sink.old) waiting.old (last_text at.moved at.number asked) (W.contents sink.new) waiting.new) }
 {
-    let Moved { to: c, input } = at.moved;
+    let c = at.moved.to;
     match c.place {
-        Step::Done(end) => ended(end.answer, end.words, c, asked, sink, waiting)?,
-        Step::Ask(_, _) => {
+        Standing::Kept(Step::Done(end)) => ended(end.answer, end.words, c, asked, sink, waiting)?,
+        Standing::LentDone(words, status) => {
+            lent_ended(at.moved, words, status, asked, sink, waiting)?
+        }
+        _ => {
             let number = at.number.unwrap_or(0);
             stop(number, c.actions, c.micros, sink, waiting)?
         }
     }
-    Ok(input)
+    Ok(at.moved.input)
 }
 
 // The turns of a listing, up to one that stops it. No conversation is as long as the turns that are counted.

@@ -1,33 +1,48 @@
 -- What the code's functions need of the definitions
-use Rattle.hardware.specs.Talk.{Talk}
-use Rattle.std.proofs.Common.{◌≡◌, ℕ, ◌+◌, ◌-◌, ◌≤◌, List, ◌++◌, length, take, drop, replicate, refl, sym, ap, subst, ◌∙◌, append-nil, arith, length-drop, drop_of_length-le, length-take-le, take_all, take_at, Ok}
-use Rattle.hardware.specs.declared.Action.{Action}
+use Rattle.hardware.specs.Talk.{Talk, Res, end, and_then}
+use Rattle.std.proofs.Common.{◌≡◌, ℕ, ◌+◌, ◌-◌, ◌≤◌, ◌<◌, List, [], ◌++◌, length, take, drop, replicate, refl, sym, ap, subst, ◌∙◌, append-nil, arith, length-drop, drop_of_length-le, length-take-le, take_all, take_at, le-ltb, lt-ltb, Ok, Err}
+use mathlib.Core.Path.{fun_ext}
+use Rattle.hardware.specs.Block as blk
 use Rattle.hardware.specs.Refusal.{refusal}
 use Rattle.hardware.proofs.Refusal.{taken}
+use Rattle.hardware.specs.declared.Error.{Error}
 use Rattle.hardware.specs.declared.Port.{Port}
 use Rattle.hardware.specs.declared.Request.{Request}
-use Rattle.hardware.specs.declared.Step.{Step}
-use Rattle.jobs.specs.declared.job.Ended.{Ended}
-use Rattle.answers.specs.declared.Value.{Value}
+use Rattle.answers.specs.declared.Value.TheVariants as value
+use Rattle.reference.specs.Hostif.{command}
 use Rattle.reference.specs.Out.{Out}
 use Rattle.operations.specs.Request.{request, refused}
-use Rattle.operations.proofs.Words.{words_lent}
+use Rattle.operations.proofs.Words.{words_lent, long_words}
 use Rattle.operations.specs.Pairs.{pairs_of}
-use Rattle.operations.specs.declared.Operation.TheVariants as operationv
 use Rattle.start.specs.First.{begins}
 use Rattle.conversation.specs.Begun.{first_words, padded}
 use Rattle.conversation.proofs.PairLaws.{own_pairs}
 use Rattle.operations.specs.Operations.{list_operation, operation}
 use Rattle.operations.specs.declared.Operation.{Operation}
-use Rattle.started.specs.Operation.{told}
-use Rattle.started.specs.declared.operation.Op.{Op}
-use Rattle.calls.specs.Conversation.{Conv, opening, begun}
+use Rattle.operations.specs.declared.Operation.TheVariants as operationv
+use Rattle.operations.specs.declared.Operation.TheVariants.{Command}
+use Rattle.after.specs.After.{after_command}
+use Rattle.after.proofs.Laws.{command_begun}
+use Rattle.started.specs.Standing.{command_answer, told_lent, told_standing}
+use Rattle.started.specs.declared.standing.Standing.{Standing}
+use Rattle.calls.specs.Conversation.{Conv, opening, started, lends, to_lend, begun}
 use Rattle.calls.specs.Run.{run_into}
 use Rattle.calls.proofs.Laws.{run_part}
 use Rattle.conversation.specs.Conversation.{conv_of}
 use Rattle.conversation.specs.Run.{shown_of}
 use Rattle.conversation.specs.declared.conversation.Conversation as code
 use Rattle.conversation.specs.declared.run.Ran.{Ran}
+
+-- a command's answer
+answered : (n : ℕ) (got : Res ℕ) (ws : List ℕ) → ◌≡◌ {A = Talk Out} (end (command_answer n got, ws)) (after_command n got ws)
+answered n (Ok status) ws = refl
+answered n (Err e) ws = refl
+
+pub told_answers : (port : Port) (ws : List ℕ) {n : ℕ} → n ≡ length ws → told_lent n (command port ws) ≡ operation port Command ws
+told_answers port ws {n} many =
+    ap (and_then (command port ws)) (fun_ext (λ p. answered n p.0 p.1))
+    ∙ command_begun port ws n
+    ∙ ap (λ (m : ℕ). blk.◌>>=◌ (command port) (λ status. blk.return (value.Command status m)) ws) many
 
 -- the words under it are still in a block that was padded
 take_padded : (ws : List ℕ) → take (length ws) (padded ws) ≡ ws
@@ -69,37 +84,72 @@ unfolding request
 list_few port phy ws t = (taken (request port (operationv.MdioList phy) ws) t).pairs
 
 -- the words that a request counts are lent, and in one that is not turned away they are few
-module _ (port : Port) (what : Operation) (ws : List ℕ) {r : Request} (asks : request port what ws ≡ r) (t : refusal r ≡ Ok tt) where
-  pub few : r.words ≤ length ws × r.words ≤ 16
-  few = (subst (λ (x : Request). x.words ≤ length ws) asks (words_lent port what ws), (taken r t).words)
+module _ (port : Port) (what : Operation) (ws : List ℕ) {r : Request} (asks : request port what ws ≡ r) where
+  pub few : r.words ≤ 16 → r.words ≤ length ws × r.words ≤ 16
+  few h = (subst (λ (x : Request). x.words ≤ length ws) asks (words_lent port what ws), h)
 
-  verdict : refusal (request port what ws) ≡ Ok tt
-  verdict = subst (λ x. refusal x ≡ Ok tt) (sym asks) t
+  -- a call that is turned away begins nothing and is lent nothing
+  module _ {e : Error} (t : refusal r ≡ Err e) where
+    away : refused port what ws ≡ Err e
+    away = subst (λ x. refusal x ≡ Err e) (sym asks) t
 
-  pub few_pairs : (phy : ℕ) → what ≡ operationv.MdioList phy → length (pairs_of ws) ≤ 64
-  few_pairs phy is = list_few port phy ws (subst (λ (w : Operation). refusal (request port w ws) ≡ Ok tt) is verdict)
+    pub begun_refused : opening port (end (Err e, [])) ≡ begun port what ws
+    begun_refused = sym (ap (λ v. opening port (started (operation port what ws) v)) away)
 
-  pub not_refused : (own : List ℕ) {o : Talk Out} → own ≡ first_words what r.words ws → o ≡ begins port what r.words r.pairs ws own
-      → opening port o ≡ begun port what ws
-  not_refused own {o = o} b e =
-      let begins_so : o ≡ operation port what ws =
-      e ∙ ap (begins port what r.words r.pairs ws) b
-      ∙ subst (λ (x : Request). begins port what x.words x.pairs ws (first_words what x.words ws) ≡ operation port what ws) asks (begins_lem port what ws verdict) in
-      ap (opening port) begins_so ∙ rw verdict
+    pub lends_refused : 0 ≡ to_lend port what ws
+    lends_refused = sym (ap (λ v. lends v (request port what ws).words) away)
+
+  module _ (t : refusal r ≡ Ok tt) where
+    pub bounded : r.words ≤ 448
+    bounded = (taken r t).words
+
+    verdict : refused port what ws ≡ Ok tt
+    verdict = subst (λ x. refusal x ≡ Ok tt) (sym asks) t
+
+    opens : opening port (operation port what ws) ≡ begun port what ws
+    opens = sym (ap (λ v. opening port (started (operation port what ws) v)) verdict)
+
+    counts : lends (Ok tt) r.words ≡ to_lend port what ws
+    counts = sym (ap (λ v. lends v (request port what ws).words) verdict ∙ ap (λ (x : Request). lends (Ok tt) x.words) asks)
+
+    unrefused : refusal (request port what ws) ≡ Ok tt
+    unrefused = subst (λ x. refusal x ≡ Ok tt) (sym asks) t
+
+    pub few_pairs : (phy : ℕ) → what ≡ operationv.MdioList phy → length (pairs_of ws) ≤ 64
+    few_pairs phy is = list_few port phy ws (subst (λ (w : Operation). refusal (request port w ws) ≡ Ok tt) is unrefused)
+
+    -- it begins with the operation, on the words that it keeps
+    pub begun_kept : opening port (begins port what r.words r.pairs ws (first_words what r.words ws)) ≡ begun port what ws
+    begun_kept =
+        ap (opening port) (subst (λ (x : Request). begins port what x.words x.pairs ws (first_words what x.words ws) ≡ operation port what ws) asks (begins_lem port what ws unrefused))
+        ∙ opens
+
+    pub lends_none : r.words ≤ 16 → 0 ≡ to_lend port what ws
+    lends_none h = rw (← counts, le-ltb _ _ h) refl
+
+    -- or with a command, on the words that are lent
+    pub begun_long : 16 < r.words → opening port (told_lent r.words (command port ws)) ≡ begun port what ws
+    begun_long h =
+        let l = long_words port what ws (subst (λ (x : Request). 16 < x.words) (sym asks) h) in
+        let many : r.words ≡ length ws = subst (λ (x : Request). x.words ≡ length ws) asks l.1 in
+        ap (opening port) (told_answers port ws many ∙ sym l.0) ∙ opens
+
+    pub lends_long : 16 < r.words → r.words ≡ to_lend port what ws
+    lends_long h = rw (← counts, lt-ltb _ _ h) refl
 
 -- what a conversation says where it stands at a place that is known
-pub at_place : (c : code.Conversation) {p : Step Action Op (Ended Value)} → c.place ≡ p → (conv_of c).talk ≡ told c.port p c.block
-at_place c e = ap (λ (p : Step Action Op (Ended Value)). told c.port p c.block) e
+pub at_place : (c : code.Conversation) (ws : List ℕ) {p : Standing} → c.place ≡ p → (conv_of c ws).talk ≡ told_standing c.port p c.block ws
+at_place c ws e = ap (λ (p : Standing). told_standing c.port p c.block ws) e
 
 module _ (t : List ℕ) (at : ℕ) (h : at ≤ length t) where
   all : length (drop at t) ≤ length t - at
   all = simp length-drop (omega arith)
 
   -- what the loop's caller makes of its answer, once the part that it lent is back
-  pub run_lent : (c : Conv) (rs : List ℕ) (r : Ran) (part : List ℕ) → shown_of r part ≡ run_into c rs (take (length t - at) (drop at t)) 0 0
-      → shown_of (record { stop = r.stop; to = r.to; actions = r.actions; micros = r.micros; at = at + r.at; used = r.used }) (take at t ++ (part ++ drop (length t - at) (drop at t)))
+  pub run_back : (c : Conv) (rs : List ℕ) (r : Ran) (ws part : List ℕ) → shown_of r ws part ≡ run_into c rs (take (length t - at) (drop at t)) 0 0
+      → shown_of (record { stop = r.stop; to = r.to; actions = r.actions; micros = r.micros; at = at + r.at; used = r.used }) ws (take at t ++ (part ++ drop (length t - at) (drop at t)))
       ≡ run_into c rs t at 0
-  run_lent c rs r part e =
+  run_back c rs r ws part e =
       rw (
         drop_of_length-le (drop at t) all,
         append-nil part,

@@ -11,16 +11,25 @@ use Rattle.answers.specs.declared.Value.{Value}
 use Rattle.calls.specs.Run.{Run}
 use Rattle.jobs.specs.declared.job.Ended.{Ended}
 use Rattle.reference.specs.Out.{Out}
+use Rattle.long.specs.Command.{resume_long}
 use Rattle.started.specs.declared.operation.Op.{Op}
+use Rattle.started.specs.declared.standing.Standing.{Standing}
+use Rattle.started.specs.declared.standing.Standing.TheVariants as standing
 use Rattle.conversation.specs.declared.conversation.Conversation as code
 
 -- the action that is due and what its access says behind it: to the last action of release, or of a wait by itself
-abbrev pub hold_at : Step Action Op (Ended Value) → List ℕ → Talk (Res ℕ × List ℕ)
-hold_at (step.Ask a op) b = ask a (λ r. resume_access op.access b r)
-hold_at (step.Done ended) b = end (Ok 0, [])
+abbrev pub hold_kept : Step Action Op (Ended Value) → List ℕ → Talk (Res ℕ × List ℕ)
+hold_kept (step.Ask a op) b = ask a (λ r. resume_access op.access b r)
+hold_kept (step.Done ended) b = end (Ok 0, [])
 
-abbrev pub hold_of : code.Conversation → Talk (Res ℕ × List ℕ)
-hold_of c = hold_at c.place c.block
+abbrev pub hold_at : Standing → (block words : List ℕ) → Talk (Res ℕ × List ℕ)
+hold_at (standing.Kept step) b ws = hold_kept step b
+hold_at (standing.Lent n a l) b ws = ask a (λ r. resume_long l ws r)
+hold_at (standing.LentDone n status) b ws = end (Ok 0, [])
+
+-- with the words that are lent now
+abbrev pub hold_of : code.Conversation → List ℕ → Talk (Res ℕ × List ℕ)
+hold_of c ws = hold_at c.place c.block ws
 
 -- another family put into a port, and into a conversation's
 abbrev pub of_family : Family → Port → Port

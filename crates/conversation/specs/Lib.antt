@@ -2,3 +2,4 @@ pub mod Begun
 pub mod Conversation
 pub mod Hold
 pub mod Run
+pub mod Lent

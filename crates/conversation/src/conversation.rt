@@ -1,16 +1,19 @@
 // A conversation by value: begin, and one step.
-ghost use Rattle.std.specs.Prelude.{ℕ, ◌≡◌, ◌≤◌, [], ◌∷◌, length, replicate, take, Err};
+ghost use Rattle.std.specs.Prelude.{◌≡◌, ◌≤◌, ℕ, List, [], ◌∷◌, ◌==◌, length, replicate, take, Err};
 ghost use Rattle.std.proofs.lemmas.List.Edits.{sets};
-ghost use Rattle.operations.specs.Pairs.{pairs_of};
-ghost use Rattle.operations.specs.declared.Operation.TheVariants as ops;
 ghost use Rattle.hardware.specs.Talk.{end};
 ghost use Rattle.drive.specs.Act.{reply_for};
 ghost use Rattle.std.specs.Option.{option_map};
-ghost use Rattle.calls.specs.Conversation.{answer_of, asked_of, gone, opening, begun, refuses, step_talk, given, handed_back, left_by, left_of, own_of};
+ghost use Rattle.calls.specs.Conversation.{answer_of, asked_of, gone, opening, begun, to_lend, refuses, why_not, goes_on, step_lent, given, handed_lent, left_by, left_of, own_of};
 ghost use Rattle.conversation.specs.Begun.{first_words, padded, pair_words};
-ghost use Rattle.conversation.specs.Conversation.{answer_as, conv_of, stepped_of};
-ghost use Rattle.start.specs.First.{told_first};
+ghost use Rattle.conversation.specs.Conversation.{answer_as, conv_of, is_lent, is_own, stepped_of, stepped_on};
+ghost use Rattle.operations.specs.Pairs.{pairs_of};
+ghost use Rattle.operations.specs.declared.Operation.TheVariants as ops;
+ghost use Rattle.reference.specs.Hostif.{command};
+ghost use Rattle.start.specs.First.{begins, told_first};
 ghost use Rattle.started.specs.Operation.{resume_op, told};
+ghost use Rattle.started.specs.Standing.{lent_of, told_lent};
+ghost use Rattle.long.specs.Command.{resume_long};
 
 use after::After;
 use answers::Value;
@@ -18,18 +21,20 @@ use arguments::{Left, Watch};
 use drive::{reply_of, uses_of, waited_of};
 use hardware::{Action, Error, Port, Reply, Step, Stop};
 use jobs::job::Ended;
+use long::command::Long;
 use operations::Operation;
 use run_access::lent::Lent;
 use start::start::{First, start};
 use started::operation::Op;
+use started::standing::{Standing, command_answer};
 
 // The whole state of a conversation.
 #[derive(Clone, Copy)]
 pub struct Conversation {
     pub port: Port,
-    pub place: Step<Action, Op, Ended<Value>>,
+    pub place: Standing,
     // in fixed memory: the host block of 16 words, then a list's pairs and values. At the end an answer's words are the first; how
-    // many stands in `place`
+    // many stands in `place`, and whether they are these or lent ones
     pub block: [u32; 80],
     pub actions: u64,
     pub micros: u64,
@@ -134,6 +139,16 @@ fn is_refused(a: Action, kind: u32) -> bool
     uses_of(a) != 0 && kind > 1
 }
 
+// Why an action is not done: its reply is of no kind that it takes, or another number of words is lent than is to be.
+fn why_not(a: Action, kind: u32, lent: bool) -> Option<Stop>
+    ensures { why_not a kind lent ≡ result }
+{
+    if is_refused(a, kind) {
+        return Some(Stop::BadReply);
+    }
+    if lent { None } else { Some(Stop::Words) }
+}
+
 // What an action is answered with by a reply's two words. A wait uses neither.
 #[tactic(auto, using(std::proofs::Common::ne_eqb))]
 fn reply_to(a: Action, kind: u32, value: u32) -> Reply
@@ -161,50 +176,89 @@ fn left_by(value: Value, own: Left) -> Left
 }
 
 impl Conversation {
+    // A conversation keeps up to so many words itself.
+    const KEPT: usize = 16;
+
     // A conversation that has ended from the start, for a call that is turned away.
     fn refused(port: Port, e: Error) -> Conversation
-        ensures { conv_of result ≡ opening port (end (Err e, [])) }
+        ensures told { (ws : List ℕ) → conv_of result ws ≡ opening port (end (Err e, [])) }
+        ensures lends { lent_of result.place ≡ 0 }
     {
-        let block = [0u32; 80];
         Conversation {
             port,
-            place: Step::Done(Ended {
+            place: Standing::Kept(Step::Done(Ended {
                 answer: Err(e),
                 words: 0,
-            }),
-            block,
+            })),
+            block: [0; 80],
+            actions: 0,
+            micros: 0,
+        }
+    }
+
+    // An operation that keeps its words.
+    fn kept(port: Port, what: Operation, block: &[u32], words: usize, pairs: usize) -> Conversation
+        requires block { words ≤ length block.now × words ≤ 16 }
+        requires list { (phy : ℕ) → what ≡ ops.MdioList phy → length (pairs_of block.now) ≤ 64 }
+        ensures told { (ws : List ℕ) → conv_of result ws ≡ opening port (begins port what words pairs block.now (first_words what words block.now)) }
+        ensures lends { lent_of result.place ≡ 0 }
+    {
+        let mut own = lent(what, block, words);
+        let first = start(what, port, &mut own, words, pairs, block);
+        let place = placed(port, &mut own, first);
+        Conversation {
+            port,
+            place: Standing::Kept(place),
+            block: own,
+            actions: 0,
+            micros: 0,
+        }
+    }
+
+    // A command whose words stay with the caller.
+    fn long(port: Port, words: u32) -> Conversation
+        ensures told { (ws : List ℕ) → conv_of result ws ≡ opening port (told_lent words (command port ws)) }
+        ensures lends { lent_of result.place ≡ words }
+    {
+        Conversation {
+            port,
+            place: Standing::lent(words, Long::start(port)),
+            block: [0; 80],
             actions: 0,
             micros: 0,
         }
     }
 
     // Begins an operation, with the words that are lent: a command's host block, a list's pairs, or the windows of a poll of a
-    // minute. No other operation has a use for any.
-    #[tactic(auto, using(crate::proofs::Laws::not_refused))]
+    // minute. No other operation has a use for any. Of a command's that are more than 16 it remembers how many they are, and they
+    // are lent to each step and run.
     pub fn begin(port: Port, what: Operation, block: &[u32]) -> Conversation
-        ensures { conv_of result ≡ begun port what block.now }
+        ensures begun { conv_of result block.now ≡ begun port what block.now }
+        ensures kept { lent_of result.place ≡ 0 → (ws : List ℕ) → conv_of result ws ≡ begun port what block.now }
+        ensures lends { lent_of result.place ≡ to_lend port what block.now }
     {
         let request = what.request(port, block);
         match request.refusal() {
             Err(e) => Conversation::refused(port, e),
             Ok(()) => {
-                let mut words = lent(what, block, request.words);
-                let first = start(what, port, &mut words, request.words, request.pairs, block);
-                let place = placed(port, &mut words, first);
-                Conversation {
-                    port,
-                    place,
-                    block: words,
-                    actions: 0,
-                    micros: 0,
+                if request.words > Conversation::KEPT {
+                    Conversation::long(port, request.words as u32)
+                } else {
+                    Conversation::kept(port, what, block, request.words, request.pairs)
                 }
             }
         }
     }
 
+    // How many words each step and run is to be lent: those of a command above 16, else none.
+    pub fn words(self) -> usize
+        ensures { lent_of self.place ≡ result }
+    {
+        self.place.words() as usize
+    }
+
     fn stopped(self, stop: Stop) -> Stepped
-        ensures stands { stepped_of result ≡ record { stop = stop; to = conv_of self } }
-        ensures counts { (result.actions ≡ result.to.actions) × (result.micros ≡ result.to.micros) }
+        ensures { result ≡ record { stop = stop; to = self; actions = self.actions; micros = self.micros } }
     {
         Stepped {
             stop,
@@ -214,92 +268,137 @@ impl Conversation {
         }
     }
 
-    // The action is answered, and counted.
-    #[tactic(auto, using(hardware::proofs::Laws::then_assoc))]
-    fn answered(self, a: Action, op: Op, reply: Reply) -> Conversation
-        ensures { conv_of result ≡ gone (conv_of self) a (resume_op self.port op reply self.block) }
+    // An action was done, and counted.
+    fn done(self, a: Action, place: Standing, block: [u32; 80]) -> Stepped
+        ensures { result ≡ stepped_on self a place block }
     {
-        let mut block = self.block;
-        let place = op.next(self.port, &mut block, reply);
-        Conversation {
+        let to = Conversation {
             place,
             block,
             actions: self.actions.wrapping_add(1),
             micros: self.micros.wrapping_add(waited_of(a)),
             ..self
+        };
+        to.stopped(Stop::Done)
+    }
+
+    // One action is answered with a reply's two words. One that is to be lent words is lent none: 23.
+    pub fn step(self, kind: u32, value: u32) -> Stepped
+        ensures stepped { stepped_of result [] ≡ step_lent (is_lent self []) (conv_of self []) kind value }
+        ensures lends { lent_of result.to.place ≡ lent_of self.place }
+        ensures counts { (result.actions ≡ result.to.actions) × (result.micros ≡ result.to.micros) }
+    {
+        let mut none = [0u32; 0];
+        self.step_lent(kind, value, &mut none)
+    }
+
+    // The same, with the command's words as the step before left them: none but the reply words that are due change.
+    pub fn step_lent(self, kind: u32, value: u32, words: &mut [u32]) -> Stepped
+        ensures stepped { stepped_of result words.new ≡ step_lent (is_lent self words.old) (conv_of self words.old) kind value }
+        ensures lends { lent_of result.to.place ≡ lent_of self.place }
+        ensures kept { lent_of self.place ≡ 0 → words.new ≡ words.old }
+        ensures counts { (result.actions ≡ result.to.actions) × (result.micros ≡ result.to.micros) }
+    {
+        let lent = words.len() == self.words();
+        match self.place {
+            Standing::Kept(Step::Ask(a, op)) => match why_not(a, kind, lent) {
+                Some(stop) => self.stopped(stop),
+                None => {
+                    let mut block = self.block;
+                    let place = op.next(self.port, &mut block, reply_to(a, kind, value));
+                    self.done(a, Standing::Kept(place), block)
+                }
+            },
+            Standing::Lent(n, a, long) => match why_not(a, kind, lent) {
+                Some(stop) => self.stopped(stop),
+                None => {
+                    let step = long.next(words, reply_to(a, kind, value));
+                    self.done(a, Standing::lent(n, step), self.block)
+                }
+            },
+            _ => self.stopped(Stop::AfterEnd),
         }
     }
 
-    // One action is answered with a reply's two words.
-    #[tactic(auto, using(crate::proofs::Laws::at_place, calls::proofs::Laws::step_refused, calls::proofs::Laws::step_done))]
-    pub fn step(self, kind: u32, value: u32) -> Stepped
-        ensures stepped { stepped_of result ≡ step_talk (conv_of self) kind value }
-        ensures counts { (result.actions ≡ result.to.actions) × (result.micros ≡ result.to.micros) }
+    // Whether it still asks for an action.
+    pub fn goes_on(self) -> bool
+        ensures { (ws : List ℕ) → goes_on (conv_of self ws).talk ≡ result }
     {
         match self.place {
-            Step::Done(_) => self.stopped(Stop::AfterEnd),
-            Step::Ask(a, op) => {
-                if is_refused(a, kind) {
-                    self.stopped(Stop::BadReply)
-                } else {
-                    let to = self.answered(a, op, reply_to(a, kind, value));
-                    to.stopped(Stop::Done)
-                }
-            }
+            Standing::Kept(Step::Ask(_, _)) => true,
+            Standing::Lent(_, _, _) => true,
+            _ => false,
         }
     }
 
     // The action that is due, or nothing where the conversation has ended.
     pub fn asked(self) -> Option<Action>
-        ensures { asked_of (conv_of self).talk ≡ result }
+        ensures { (ws : List ℕ) → asked_of (conv_of self ws).talk ≡ result }
     {
         match self.place {
-            Step::Ask(a, _) => Some(a),
-            Step::Done(_) => None,
+            Standing::Kept(Step::Ask(a, _)) => Some(a),
+            Standing::Lent(_, a, _) => Some(a),
+            _ => None,
         }
     }
 
     // What it has ended with, or nothing where it still runs.
     pub fn answer(self) -> Option<Answer>
-        ensures { answer_of (conv_of self) ≡ option_map answer_as result }
+        ensures { (ws : List ℕ) → length ws ≡ lent_of self.place → answer_of (conv_of self ws) ≡ option_map answer_as result }
     {
         match self.place {
-            Step::Ask(_, _) => None,
-            Step::Done(ended) => Some(Answer {
+            Standing::Kept(Step::Done(ended)) => Some(Answer {
                 what: ended.answer,
                 words: usize::min(ended.words, 80),
                 actions: self.actions,
                 micros: self.micros,
             }),
+            Standing::LentDone(n, status) => Some(Answer {
+                what: command_answer(n, status),
+                words: n as usize,
+                actions: self.actions,
+                micros: self.micros,
+            }),
+            _ => None,
         }
     }
 
     // Hands the words of a `command` that has ended, well or not, back to the block that they came from; and the values of an
     // `mdio_list`, of one that a read ended those before it. A block of another length than the answer has words is 23 and stays
-    // as it was, and so is any block before the end.
+    // as it was, and so is any block before the end. Words
+    // that were lent are there already.
     pub fn hand_back(self, block: &mut [u32]) -> Result<(), Error>
-        ensures { (result, block.new) ≡ handed_back (conv_of self).talk block.old }
+        ensures { (result, block.new) ≡ handed_lent (is_own self block.old) (conv_of self block.old).talk block.old }
     {
         match self.place {
-            Step::Ask(_, _) => Err(Error::Block),
-            Step::Done(ended) => give_first(&self.block, ended.words, block),
+            Standing::Kept(Step::Done(ended)) => give_first(&self.block, ended.words, block),
+            Standing::LentDone(n, _) => {
+                if n == 0 || block.len() == n as usize {
+                    Ok(())
+                } else {
+                    Err(Error::Block)
+                }
+            }
+            _ => Err(Error::Block),
         }
     }
 
     // What the Watch of a poll is to hold, for `Watch::store`: a poll that ended well changes it, and nothing else does.
     pub fn left(self, watch: Watch) -> Left
-        ensures { left_of (conv_of self).talk (own_of watch) ≡ result }
+        ensures { (ws : List ℕ) → left_of (conv_of self ws).talk (own_of watch) ≡ result }
     {
         let own = Left {
             forced: watch.forced,
             reforced: watch.reforced,
         };
         match self.place {
-            Step::Done(
-                Ended {
-                    answer: Ok(value),
-                    ..
-                },
+            Standing::Kept(
+                Step::Done(
+                    Ended {
+                        answer: Ok(value),
+                        ..
+                    },
+                ),
             ) => left_by(value, own),
             _ => own,
         }

@@ -1,19 +1,23 @@
 // A run over a script of replies, into a transcript.
-ghost use Rattle.std.specs.Prelude.{◌≡◌, ◌+◌, ◌≤◌, length};
+ghost use Rattle.std.specs.Prelude.{◌≡◌, ℕ, List, [], ◌+◌, ◌≤◌, length};
 ghost use Rattle.drive.specs.Moves.{tape, Moves};
 ghost use Rattle.started.specs.Operation.{told};
-ghost use Rattle.conversation.specs.Conversation.{conv_of};
-ghost use Rattle.calls.specs.Run.{run_on, run_into, bad, run_all};
-ghost use Rattle.conversation.specs.Run.{shown_of, reached_of};
+ghost use Rattle.started.specs.Standing.{lent_of, told_lent};
+ghost use Rattle.long.specs.Command.{told_long};
+ghost use Rattle.conversation.specs.Conversation.{conv_of, is_lent};
+ghost use Rattle.calls.specs.Run.{run_on, run_into, bad, run_lent};
+ghost use Rattle.conversation.specs.Run.{shown_of, reached_of, ran_to, start_tape};
 
 use crate::conversation::Conversation;
 use answers::Value;
 use drive::{Host, act};
-use hardware::{Action, Port, Step, Stop};
+use hardware::{Action, Error, Port, Step, Stop};
 use jobs::job::Ended;
+use long::command::Long;
 use run_access::lent;
 use run_access::lent::Lent;
 use started::operation::Op;
+use started::standing::Standing;
 
 // What a run answers: why it stopped, the conversation and its counts, the next write place in the transcript, and how many
 // reply words it used. A caller stopped by 26 or 27 goes on from these.
@@ -31,7 +35,7 @@ pub struct Ran {
 #[derive(Clone, Copy)]
 struct Reached {
     stop: Stop,
-    place: Step<Action, Op, Ended<Value>>,
+    place: Standing,
 }
 
 // As far as accesses go by themselves, one after the other.
@@ -64,8 +68,9 @@ fn run_from(
 ) -> Reached
     requires at_in_bounds { h.old.at ≤ length t.old }
     requires used_in_bounds { h.old.used ≤ length replies.now }
-    ensures t_after { reached_of port result h.new block.new t.new ≡ run_on port (told port from block.old) replies.now (tape h.old t.old) }
+    ensures t_after { (ws : List ℕ) → reached_of port result h.new block.new ws t.new ≡ run_on port (told port from block.old) replies.now (tape h.old t.old) }
     ensures at_in_bounds_2 { h.new.at ≤ length t.old }
+    ensures lends { lent_of result.place ≡ 0 }
 {
     let mut at = from;
     loop {
@@ -74,33 +79,69 @@ fn run_from(
             Step::Done(_) => {
                 return Reached {
                     stop: Stop::Done,
-                    place,
+                    place: Standing::Kept(place),
                 };
             }
             Step::Ask(a, op) => match act(h, a, replies, t) {
                 Ok(reply) => {
                     at = op.next(port, block, reply);
                 }
-                Err(stop) => return Reached { stop, place },
+                Err(stop) => {
+                    return Reached {
+                        stop,
+                        place: Standing::Kept(place),
+                    };
+                }
             },
         }
     }
 }
 
-// Over the transcript from its write place on.
-fn run_on(c: Conversation, replies: &[u32], t: &mut [u32]) -> Ran
-    ensures t_after { shown_of result t.new ≡ run_into (conv_of c) replies.now t.old 0 0 }
-    ensures at_in_bounds { result.at ≤ length t.old }
-    ensures counts { (result.actions ≡ result.to.actions) × (result.micros ≡ result.to.micros) }
+// The same of a command whose words are lent: an action at a time.
+#[tactic(auto, using(drive::specs::Moves::stays, calls::proofs::Laws::run_ended, calls::proofs::Laws::run_short))]
+fn lent_from(
+    from: Step<Action, Long, Result<u32, Error>>,
+    count: u32,
+    port: Port,
+    words: &mut [u32],
+    h: &mut Host,
+    replies: &[u32],
+    t: &mut [u32],
+) -> Reached
+    requires at_in_bounds { h.old.at ≤ length t.old }
+    requires used_in_bounds { h.old.used ≤ length replies.now }
+    ensures t_after { (b : List ℕ) → reached_of port result h.new b words.new t.new ≡ run_on port (told_lent count (told_long words.old from)) replies.now (tape h.old t.old) }
+    ensures at_in_bounds_2 { h.new.at ≤ length t.old }
+    ensures lends { lent_of result.place ≡ count }
 {
-    let mut block = c.block;
-    let mut h = Host {
-        used: 0,
-        at: 0,
-        actions: c.actions,
-        micros: c.micros,
-    };
-    let reached = run_from(c.place, c.port, &mut block, &mut h, replies, t);
+    let mut at = from;
+    loop {
+        match at {
+            Step::Done(_) => {
+                return Reached {
+                    stop: Stop::Done,
+                    place: Standing::lent(count, at),
+                };
+            }
+            Step::Ask(a, long) => match act(h, a, replies, t) {
+                Ok(reply) => {
+                    at = long.next(words, reply);
+                }
+                Err(stop) => {
+                    return Reached {
+                        stop,
+                        place: Standing::lent(count, at),
+                    };
+                }
+            },
+        }
+    }
+}
+
+// What a run answers that has stopped at a place of its own transcript.
+fn as_ran(c: Conversation, reached: Reached, block: [u32; 80], h: Host) -> Ran
+    ensures { result ≡ ran_to c reached block h }
+{
     Ran {
         stop: reached.stop,
         to: Conversation {
@@ -114,6 +155,68 @@ fn run_on(c: Conversation, replies: &[u32], t: &mut [u32]) -> Ran
         micros: h.micros,
         at: h.at,
         used: h.used,
+    }
+}
+
+// Over the transcript from its write place on, from a place of an operation that keeps its words.
+fn run_kept(
+    c: Conversation,
+    from: Step<Action, Op, Ended<Value>>,
+    replies: &[u32],
+    t: &mut [u32],
+) -> Ran
+    ensures t_after { (ws : List ℕ) → shown_of result ws t.new ≡ run_on c.port (told c.port from c.block) replies.now (start_tape c t.old) }
+    ensures at_in_bounds { result.at ≤ length t.old }
+    ensures lends { lent_of result.to.place ≡ 0 }
+    ensures counts { (result.actions ≡ result.to.actions) × (result.micros ≡ result.to.micros) }
+{
+    let mut block = c.block;
+    let mut h = Host {
+        used: 0,
+        at: 0,
+        actions: c.actions,
+        micros: c.micros,
+    };
+    let reached = run_from(from, c.port, &mut block, &mut h, replies, t);
+    as_ran(c, reached, block, h)
+}
+
+// The same of a command whose words are lent.
+fn run_words(
+    c: Conversation,
+    from: Step<Action, Long, Result<u32, Error>>,
+    count: u32,
+    replies: &[u32],
+    t: &mut [u32],
+    words: &mut [u32],
+) -> Ran
+    ensures t_after { shown_of result words.new t.new ≡ run_on c.port (told_lent count (told_long words.old from)) replies.now (start_tape c t.old) }
+    ensures at_in_bounds { result.at ≤ length t.old }
+    ensures lends { lent_of result.to.place ≡ count }
+    ensures counts { (result.actions ≡ result.to.actions) × (result.micros ≡ result.to.micros) }
+{
+    let mut h = Host {
+        used: 0,
+        at: 0,
+        actions: c.actions,
+        micros: c.micros,
+    };
+    let reached = lent_from(from, count, c.port, words, &mut h, replies, t);
+    as_ran(c, reached, c.block, h)
+}
+
+fn run_on(c: Conversation, replies: &[u32], t: &mut [u32], words: &mut [u32]) -> Ran
+    ensures t_after { shown_of result words.new t.new ≡ run_into (conv_of c words.old) replies.now t.old 0 0 }
+    ensures at_in_bounds { result.at ≤ length t.old }
+    ensures lends { lent_of result.to.place ≡ lent_of c.place }
+    ensures counts { (result.actions ≡ result.to.actions) × (result.micros ≡ result.to.micros) }
+{
+    match c.place {
+        Standing::Kept(from) => run_kept(c, from, replies, t),
+        Standing::Lent(count, a, long) => {
+            run_words(c, Step::Ask(a, long), count, replies, t, words)
+        }
+        Standing::LentDone(_, _) => refused(Stop::Done, c, 0),
     }
 }
 
@@ -144,21 +247,43 @@ fn refused(stop: Stop, c: Conversation, at: usize) -> Ran
     }
 }
 
-// Runs the conversation over the replies, writing each action's three words from place `at` of the transcript on.
-#[tactic(auto, using(crate::proofs::Laws::at_place, crate::proofs::Laws::within_part, calls::proofs::Laws::all_ended, calls::proofs::Laws::all_bad, calls::proofs::Laws::all_full))]
+// Runs the conversation over the replies, writing each action's three words from place `at` of the transcript on. One that is
+// to be lent words is lent none: 23.
 pub fn run(c: Conversation, replies: &[u32], transcript: &mut [u32], at: usize) -> Ran
-    ensures shown { shown_of result transcript.new ≡ run_all (conv_of c) replies.now transcript.old at }
+    ensures shown { shown_of result [] transcript.new ≡ run_lent (is_lent c []) (conv_of c []) replies.now transcript.old at }
+    ensures lends { lent_of result.to.place ≡ lent_of c.place }
     ensures counts { (result.actions ≡ result.to.actions) × (result.micros ≡ result.to.micros) }
 {
-    if let Step::Done(_) = c.place {
+    let mut none = [0u32; 0];
+    run_lent(c, replies, transcript, at, &mut none)
+}
+
+// The same, with the command's words as the call before left them: none but the reply words that are due change.
+#[tactic(auto, using(crate::proofs::Laws::within_part, calls::proofs::Laws::run_over, calls::proofs::Laws::run_bad, calls::proofs::Laws::run_unlent))]
+pub fn run_lent(
+    c: Conversation,
+    replies: &[u32],
+    transcript: &mut [u32],
+    at: usize,
+    words: &mut [u32],
+) -> Ran
+    ensures shown { shown_of result words.new transcript.new ≡ run_lent (is_lent c words.old) (conv_of c words.old) replies.now transcript.old at }
+    ensures lends { lent_of result.to.place ≡ lent_of c.place }
+    ensures kept { lent_of c.place ≡ 0 → words.new ≡ words.old }
+    ensures counts { (result.actions ≡ result.to.actions) × (result.micros ≡ result.to.micros) }
+{
+    if !c.goes_on() {
         return refused(Stop::AfterEnd, c, at);
     }
     if is_bad(replies) {
         return refused(Stop::BadReply, c, at);
     }
+    if words.len() != c.words() {
+        return refused(Stop::Words, c, at);
+    }
     if transcript.len() < at {
         return refused(Stop::NoRoom, c, at);
     }
-    let r = run_on(c, replies, &mut transcript[at..]);
+    let r = run_on(c, replies, &mut transcript[at..], words);
     Ran { at: at + r.at, ..r }
 }

@@ -21,7 +21,7 @@ pub record Taken (r : Request) : Type 0 where
   pub kr : r.kr ≤ 0xffff
   pub selected : r.selected ≤ 0xffff
   pub pairs : r.pairs ≤ 64
-  pub words : r.words ≤ 16
+  pub words : r.words ≤ 448
   pub pause : r.port.pause ≤ 100
   pub windows : r.bad_windows ≡ false
 
@@ -45,7 +45,7 @@ taken r h =
     let mdio = passed (ltb 31 r.phy || ltb 31 r.device || r.outside) Address fiber.1 in
     let kr = passed (ltb 0xffff r.kr || ltb 0xffff r.selected) KrAddress mdio.1 in
     let list = passed (ltb 64 r.pairs) Pairs kr.1 in
-    let block = passed (ltb 16 r.words) Block list.1 in
+    let block = passed (ltb 448 r.words) Block list.1 in
     let paused = passed (eqb r.port.pause 0 || ltb 100 r.port.pause) Pause block.1 in
     let pause = neither (eqb r.port.pause 0) (ltb 100 r.port.pause) paused.0 in
     let windows = passed r.bad_windows Windows paused.1 in

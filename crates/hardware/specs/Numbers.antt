@@ -5,7 +5,7 @@ use Rattle.hardware.specs.declared.Error.{Error}
 use Rattle.hardware.specs.declared.Misuse.{Misuse}
 use Rattle.hardware.specs.declared.Misuse.TheVariants.{Unknown, NotHeld, NotEnded}
 use Rattle.hardware.specs.declared.Stop.{Stop}
-use Rattle.hardware.specs.declared.Stop.TheVariants.{Done, AfterEnd, BadReply, NoReply, NoRoom}
+use Rattle.hardware.specs.declared.Stop.TheVariants.{Done, AfterEnd, BadReply, Words, NoReply, NoRoom}
 use Rattle.hardware.specs.declared.Error.TheVariants.{
   Io,
   Removed,
@@ -69,6 +69,7 @@ abbrev pub stop_number : Stop → ℕ
 stop_number Done = 0
 stop_number AfterEnd = 24
 stop_number BadReply = 25
+stop_number Words = 23
 stop_number NoReply = 26
 stop_number NoRoom = 27
 

@@ -22,7 +22,7 @@ refusal r =
     (pick (ltb 31 r.phy || ltb 31 r.device || r.outside) (Err Address)
     (pick (ltb 0xffff r.kr || ltb 0xffff r.selected) (Err KrAddress)
     (pick (ltb 64 r.pairs) (Err Pairs)
-    (pick (ltb 16 r.words) (Err Block)
+    (pick (ltb 448 r.words) (Err Block)
     (pick (eqb r.port.pause 0 || ltb 100 r.port.pause) (Err Pause)
     (pick r.bad_windows (Err Windows)
     (Ok tt))))))))

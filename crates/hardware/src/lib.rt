@@ -111,6 +111,8 @@ pub enum Stop {
     Done,
     AfterEnd,
     BadReply,
+    // another number of words was lent than the conversation remembers
+    Words,
     NoReply,
     NoRoom,
 }
@@ -148,6 +150,7 @@ impl Stop {
             Stop::Done => 0,
             Stop::AfterEnd => 24,
             Stop::BadReply => 25,
+            Stop::Words => 23,
             Stop::NoReply => 26,
             Stop::NoRoom => 27,
         }
@@ -237,6 +240,9 @@ impl Request {
     // The largest address of a KR register.
     const KR_LAST: u32 = 0xffff;
 
+    // The words of the host interface's buffer, 1,792 bytes.
+    const BUFFER: usize = 448;
+
     // What `begin` turns away, looked at in this order: the port, the addresses, a list's pairs, a command's words, the pause, a
     // poll's windows.
     #[tactic(auto, unfolding(crate::specs::Refusal::refusal))]
@@ -258,7 +264,7 @@ impl Request {
         if self.pairs > 64 {
             return Err(Error::Pairs);
         }
-        if self.words > 16 {
+        if self.words > Request::BUFFER {
             return Err(Error::Block);
         }
         if self.port.pause == 0 || self.port.pause > Port::PAUSE_LAST {

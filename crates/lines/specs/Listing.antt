@@ -1,5 +1,5 @@
 -- The listing's lines as text
-use Rattle.std.specs.Prelude.{ℕ, List, [], ◌∷◌, ◌++◌, eqb, Ok, Err}
+use Rattle.std.specs.Prelude.{ℕ, List, [], ◌∷◌, ◌++◌, eqb, take, Ok, Err}
 use Rattle.hardware.specs.Talk.{pick, Res}
 use Rattle.hardware.specs.Numbers.{number, values}
 use Rattle.answers.specs.Fields.{fields}
@@ -53,9 +53,9 @@ abbrev pub no_text : ℕ → List ℕ → ℕ → ℕ → List ℕ
 no_text number fields actions micros =
     (101 ∷ 110 ∷ 100 ∷ 32 ∷ 110 ∷ 111 ∷ 32 ∷ []) ++ decimal_digits number ++ words_text fields ++ counts_text actions micros
 
--- a conversation that has ended, with its host block as it is then
+-- a conversation that has ended, with its host block as it is then, of 448 words at the most
 abbrev pub end_text : Res Value → List ℕ → ℕ → ℕ → List ℕ
-end_text (Ok v) block actions micros = ok_text (fields v block) actions micros
+end_text (Ok v) block actions micros = ok_text (fields v (take 448 block)) actions micros
 end_text (Err e) block actions micros = no_text (number e) (values e) actions micros
 
 -- 25 and 26, where the listing stops before the end, have no field
@@ -64,4 +64,4 @@ stop_text number actions micros = (101 ∷ 110 ∷ 100 ∷ 32 ∷ 110 ∷ 111 �
 
 -- a host block's words
 abbrev pub left_text : List ℕ → List ℕ
-left_text ws = (108 ∷ 101 ∷ 102 ∷ 116 ∷ []) ++ words_text ws ++ (10 ∷ [])
+left_text ws = (108 ∷ 101 ∷ 102 ∷ 116 ∷ []) ++ words_text (take 448 ws) ++ (10 ∷ [])

@@ -23,10 +23,10 @@ use hardware::Error;
 use std::marker::Model;
 use text::{decimal_digits, hex_digits};
 
-// A line of the listing: its bytes, 1024 at most, in fixed memory. The longest shows the 64 values of a list.
+// A line of the listing: its bytes, 4608 at most, in fixed memory. The longest has a command's 448 words.
 #[derive(Drop)]
 pub struct Line {
-    bytes: [u8; 1024],
+    bytes: [u8; 4608],
     len: usize,
 }
 
@@ -37,7 +37,7 @@ impl Model for Line {
 
     ghost view = { λ l. take l.len l.bytes };
 
-    ghost invariant = { λ l. l.len ≤ 1024 };
+    ghost invariant = { λ l. l.len ≤ 4608 };
 }
 
 impl Line {
@@ -45,7 +45,7 @@ impl Line {
         ensures { result ≡ [] }
     {
         Line {
-            bytes: [0; 1024],
+            bytes: [0; 4608],
             len: 0,
         }
     }
@@ -58,14 +58,14 @@ impl Line {
 
     pub fn as_slice(&self) -> &[u8]
         ensures bytes { result.now ≡ self.now }
-        ensures fits { length result.now ≤ 1024 }
+        ensures fits { length result.now ≤ 4608 }
     {
         &self.bytes[..self.len]
     }
 
     // Bytes behind those that are there.
     fn add(&mut self, bytes: &[u8])
-        requires { length self.old + length bytes.now ≤ 1024 }
+        requires { length self.old + length bytes.now ≤ 4608 }
         ensures text { self.new ≡ self.old ++ bytes.now }
         ensures size { length self.new ≡ length self.old + length bytes.now }
     {
@@ -75,7 +75,7 @@ impl Line {
     }
 
     fn add_hex(&mut self, v: u32)
-        requires { length self.old + 8 ≤ 1024 }
+        requires { length self.old + 8 ≤ 4608 }
         ensures text { self.new ≡ self.old ++ hex_digits v }
         ensures size { length self.new ≡ length self.old + 8 }
     {
@@ -83,7 +83,7 @@ impl Line {
     }
 
     fn add_decimal(&mut self, v: u64)
-        requires { length self.old + 20 ≤ 1024 }
+        requires { length self.old + 20 ≤ 4608 }
         ensures text { self.new ≡ self.old ++ decimal_digits v }
         ensures size { length self.new ≤ length self.old + 20 }
     {
@@ -93,7 +93,7 @@ impl Line {
 
     // The counts that close the last line.
     fn add_counts(&mut self, actions: u64, micros: u64)
-        requires { length self.old + 58 ≤ 1024 }
+        requires { length self.old + 58 ≤ 4608 }
         ensures { self.new ≡ self.old ++ counts_text actions micros }
     {
         self.add(b" actions ");
@@ -105,7 +105,7 @@ impl Line {
 
     // A blank and a field.
     fn add_field(&mut self, field: u32)
-        requires { length self.old + 9 ≤ 1024 }
+        requires { length self.old + 9 ≤ 4608 }
         ensures text { self.new ≡ self.old ++ field_text field }
         ensures size { length self.new ≡ length self.old + 9 }
     {
@@ -115,7 +115,7 @@ impl Line {
 
     #[tactic(auto, using(crate::proofs::ListingLaws::words_more, crate::proofs::ListingLaws::words_all, std::proofs::lemmas::List::append_assoc))]
     fn add_fields(&mut self, fields: &[u32])
-        requires { length self.old + 9 * length fields.now ≤ 1024 }
+        requires { length self.old + 9 * length fields.now ≤ 4608 }
         ensures text { self.new ≡ self.old ++ words_text fields.now }
         ensures size { length self.new ≡ length self.old + 9 * length fields.now }
     {
@@ -126,20 +126,21 @@ impl Line {
 
     // An answer's own words: twelve at the most.
     fn add_shown(&mut self, fields: Fields)
-        requires { length self.old + 108 ≤ 1024 }
+        requires { length self.old + 108 ≤ 4608 }
         ensures text { self.new ≡ self.old ++ words_text fields }
         ensures size { length self.new ≤ length self.old + 108 }
     {
         self.add_fields(fields.as_slice());
     }
 
-    // The first words of the block.
-    fn add_block(&mut self, block: [u32; 80], n: u32)
-        requires { length self.old + 720 ≤ 1024 }
-        ensures text { self.new ≡ self.old ++ words_text (take n block) }
-        ensures size { length self.new ≤ length self.old + 720 }
+    // The first words of the host block.
+    fn add_block(&mut self, block: &[u32], n: u32)
+        requires room { length self.old + 4032 ≤ 4608 }
+        requires words { length block.now ≤ 448 }
+        ensures text { self.new ≡ self.old ++ words_text (take n block.now) }
+        ensures size { length self.new ≤ length self.old + 4032 }
     {
-        self.add_fields(block.get(..n as usize).unwrap_or(&block));
+        self.add_fields(block.get(..n as usize).unwrap_or(block));
     }
 }
 
@@ -184,13 +185,24 @@ pub fn action_line(kind: u32, register: u32, value: u32, line: &mut Line)
     }
 }
 
-fn ok_line(v: Value, block: [u32; 80], actions: u64, micros: u64, line: &mut Line)
-    ensures { line.new ≡ ok_text (fields v block) actions micros }
+// As many words as a host block has at the most.
+fn block_of(words: &[u32]) -> &[u32]
+    ensures first { take 448 words.now ≡ result.now }
+    ensures few { length result.now ≤ 448 }
+{
+    if words.len() < 448 {
+        return words;
+    }
+    &words[..448]
+}
+
+fn ok_line(v: Value, block: &[u32], actions: u64, micros: u64, line: &mut Line)
+    ensures { line.new ≡ ok_text (fields v (take 448 block.now)) actions micros }
 {
     line.clear();
     line.add(b"end ok");
     line.add_shown(fields_of(v));
-    line.add_block(block, block_words(v));
+    line.add_block(block_of(block), block_words(v));
     line.add_counts(actions, micros);
 }
 
@@ -207,12 +219,12 @@ fn no_line(number: u32, fields: Fields, actions: u64, micros: u64, line: &mut Li
 // The last line of a conversation that has ended.
 pub fn end_line(
     answer: Result<Value, Error>,
-    block: [u32; 80],
+    block: &[u32],
     actions: u64,
     micros: u64,
     line: &mut Line,
 )
-    ensures { line.new ≡ end_text answer block actions micros }
+    ensures { line.new ≡ end_text answer block.now actions micros }
 {
     match answer {
         Ok(v) => ok_line(v, block, actions, micros, line),
@@ -231,11 +243,11 @@ pub fn stop_line(number: u32, actions: u64, micros: u64, line: &mut Line)
 }
 
 // The words that a `command` leaves in its host block.
-pub fn left_line(block: [u32; 80], words: u32, line: &mut Line)
-    ensures { line.new ≡ left_text (take words block) }
+pub fn left_line(words: &[u32], line: &mut Line)
+    ensures { line.new ≡ left_text words.now }
 {
     line.clear();
     line.add(b"left");
-    line.add_block(block, words);
+    line.add_fields(block_of(words));
     line.add(b"\n");
 }

@@ -139,7 +139,7 @@ module _ (regs : ℕ → ℕ) where
   unfolding run_real refusal request bit times kr_read acquire acquire_bits release release_rest release_bits iosf_idle mux bits software firmware flash
   release_fails = (refl, refl, refl, refl, refl)
 
--- what is begun, and what is refused: a fiber port, a KR address above 0xffff, a PHY address above 31, a host block of 17 words, a bare acquire
+-- what is begun, and what is refused: a fiber port, a KR address above 0xffff, a PHY address above 31, a host block of 449 words, a bare acquire
 abbrev asked : ℕ → Operation → List ℕ → Bool
 asked device what ws = takes (port_with X552 lan0 device 10) what ws
 
@@ -149,8 +149,8 @@ begun_or_not :
     × (asked 0x15ac (KrRead 5) [] ≡ false)
     × (asked 0x15ad (ReadReg 31 31 0) [] ≡ true)
     × (asked 0x15ad (ReadReg 32 0 0) [] ≡ false)
-    × (asked 0x15ad Command (replicate 16 0) ≡ true)
-    × (asked 0x15ad Command (replicate 17 0) ≡ false)
+    × (asked 0x15ad Command (replicate 448 0) ≡ true)
+    × (asked 0x15ad Command (replicate 449 0) ≡ false)
     × (asked 0x15ad (Acquire 6) [] ≡ false)
 unfolding refusal request
 begun_or_not = (refl, refl, refl, refl, refl, refl, refl, refl)

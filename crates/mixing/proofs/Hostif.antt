@@ -69,12 +69,12 @@ module _ (f : Family) where
       (λ again g last. only_bind (only_read (far 0x15f00 tt tt f)) (λ v. only_pick (is_clear v 2) (q_posted v) (only_bind (only_wait tt) (λ _. g v))))
       q_posted 50000 _)
 
-  q_words : (block : List ℕ) (hicr n i : ℕ) → n + i ≤ 16 → Quiet f (times n (write_turn block) (λ _. started hicr) i)
+  q_words : (block : List ℕ) (hicr n i : ℕ) → n + i ≤ 448 → Quiet f (times n (write_turn block) (λ _. started hicr) i)
   unfolding times
   q_words block hicr zero i h = q_started hicr
   q_words block hicr (suc n) i h = only_bind (only_write (far_flex i (omega arith) f)) (λ _. q_words block hicr n (i + 1) (omega arith))
 
-  pub q_post : (block : List ℕ) → length block ≤ 16 → Quiet f (post block)
+  pub q_post : (block : List ℕ) → length block ≤ 448 → Quiet f (post block)
   unfolding post
   q_post block h =
       only_bind (only_read (far 0x15f0c tt tt f))
@@ -110,16 +110,16 @@ module _ (f : Family) where
       only_pick (fits (reply_length head) (length b))
       (q_rest (reply_status head) (reply_words (reply_length head)) 1 (set b 0 head) (reply_words_lem head)) only_end
 
-  q_exchange : (b : List ℕ) → length b ≤ 16 → Quiet f (exchange b)
+  q_exchange : (b : List ℕ) → length b ≤ 448 → Quiet f (exchange b)
   q_exchange b h = q_lent (q_keep b (q_post b h)) (λ last c. q_lent (q_keep c (only_raw (far 0x15800 tt tt f))) (q_received last))
 
 module _ (port : Port) where
-  pub s_command : (b : List ℕ) → length b ≤ 16 → Sound port.family well_block (command port b)
+  pub s_command : (b : List ℕ) → length b ≤ 448 → Sound port.family well_block (command port b)
   unfolding command
   s_command b h = under (bits_bracket port 0x400) (honest_block b) (quietly (q_exchange port.family b h))
 
   -- it touches no KR access register
-  plain_command : (b : List ℕ) → length b ≤ 16 → Plain port.family (command port b)
+  plain_command : (b : List ℕ) → length b ≤ 448 → Plain port.family (command port b)
   unfolding command
   plain_command b h =
       plain_held port.family (with_block b) (plain_acquire port 0x400) (plain_release port 0x400) (quiet_only NotIosf tt port.family (q_exchange port.family b h))
@@ -138,7 +138,7 @@ module _ (port : Port) where
       only_then (plain_command (token_block port take) (omega arith))
       (λ p. only_stop (λ status. only_pick (eqb status 1) only_end (only_pick (eqb status 0x80) (only_pick take only_end only_end) only_end)) p.0)
 
-  six : (activity d0 d1 d2 d3 : ℕ) → length (activity_block port activity d0 d1 d2 d3) ≤ 16
+  six : (activity d0 d1 d2 d3 : ℕ) → length (activity_block port activity d0 d1 d2 d3) ≤ 448
   unfolding activity_block
   six activity d0 d1 d2 d3 = omega arith
 

@@ -110,7 +110,7 @@ pub record Fits (what : Operation) (ws : List ℕ) : Type 0 where
   pub of_actions : actions what ws < 2 ^ 63
   pub of_micros : micros what ws < 2 ^ 63
 
-pub operation_fits : (port : Port) (what : Operation) (ws : List ℕ) → (request port what ws).words ≤ 16 → (request port what ws).pairs ≤ 64 → Fits what ws
+pub operation_fits : (port : Port) (what : Operation) (ws : List ℕ) → (request port what ws).words ≤ 448 → (request port what ws).pairs ≤ 64 → Fits what ws
 unfolding request
 operation_fits port operationv.Veto ws h k = record { of_actions = omega arith; of_micros = omega arith }
 operation_fits port operationv.Link ws h k = record { of_actions = omega arith; of_micros = omega arith }

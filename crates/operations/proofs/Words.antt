@@ -1,5 +1,5 @@
 -- The words that a request counts are lent; and a request's port
-use Prim.Native.Nat.{ℕ, ◌≤◌}
+use Prim.Native.Nat.{ℕ, ◌<◌, ◌≤◌}
 use mathlib.Core.Path.{◌≡◌, refl, ap}
 use mathlib.Core.List.{List}
 use native.Mathlib.Omega.{arith}
@@ -68,3 +68,34 @@ request_port port (operationv.NvmWord word) ws = refl
 request_port port operationv.AfterReset ws = refl
 request_port port (operationv.Bringup veto) ws = refl
 request_port port (operationv.Poll w minute) ws = refl
+
+-- where more words are lent than a conversation keeps, the operation is a command
+pub long_words : (port : Port) (what : Operation) (ws : List ℕ) → 16 < (request port what ws).words
+    → (operation_with port.pause port what ws ≡ operation_with port.pause port operationv.Command ws) × ((request port what ws).words ≡ length ws)
+unfolding request
+long_words port operationv.Veto ws h = absurd (omega (arith, h))
+long_words port operationv.Link ws h = absurd (omega (arith, h))
+long_words port (operationv.Acquire mask) ws h = absurd (omega (arith, h))
+long_words port (operationv.Release mask) ws h = absurd (omega (arith, h))
+long_words port operationv.Command ws h = (refl, refl)
+long_words port (operationv.Token take) ws h = absurd (omega (arith, h))
+long_words port (operationv.PhyActivity asked) ws h = absurd (omega (arith, h))
+long_words port (operationv.ReadReg phy device register) ws h = absurd (omega (arith, h))
+long_words port (operationv.MdioList phy) ws h = absurd (omega (arith, h))
+long_words port (operationv.WriteReg phy device register value) ws h = absurd (omega (arith, h))
+long_words port (operationv.Modify at) ws h = absurd (omega (arith, h))
+long_words port (operationv.Probe phy) ws h = absurd (omega (arith, h))
+long_words port operationv.Scan ws h = absurd (omega (arith, h))
+long_words port (operationv.Reset phy x557) ws h = absurd (omega (arith, h))
+long_words port (operationv.Abilities phy) ws h = absurd (omega (arith, h))
+long_words port (operationv.Advertise asked) ws h = absurd (omega (arith, h))
+long_words port (operationv.AnLink phy) ws h = absurd (omega (arith, h))
+long_words port (operationv.KrRead address) ws h = absurd (omega (arith, h))
+long_words port (operationv.KrWrite address value) ws h = absurd (omega (arith, h))
+long_words port (operationv.KrModify c) ws h = absurd (omega (arith, h))
+long_words port operationv.RestartAn ws h = absurd (omega (arith, h))
+long_words port (operationv.KrAutoneg kr kx) ws h = absurd (omega (arith, h))
+long_words port (operationv.NvmWord word) ws h = absurd (omega (arith, h))
+long_words port operationv.AfterReset ws h = absurd (omega (arith, h))
+long_words port (operationv.Bringup veto) ws h = absurd (omega (arith, h))
+long_words port (operationv.Poll w minute) ws h = absurd (omega (arith, h))

@@ -16,3 +16,4 @@ pub mod X553
 pub mod Bringup
 pub mod Watch
 pub mod Started
+pub mod Long

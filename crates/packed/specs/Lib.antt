@@ -5,6 +5,7 @@ pub mod Bringup
 pub mod Hardware
 pub mod Hostif
 pub mod Kr
+pub mod Long
 pub mod Mdio
 pub mod After
 pub mod Packed

@@ -9,6 +9,7 @@ pub mod p_bringup;
 pub mod p_hardware;
 pub mod p_hostif;
 pub mod p_kr;
+pub mod p_long;
 pub mod p_mdio;
 pub mod p_phy;
 pub mod p_sideband;

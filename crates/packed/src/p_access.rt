@@ -20,7 +20,7 @@ impl Packed for Held {
     ghost read = { get_held };
 
     #[tactic(auto, unfolding(crate::specs::Access::words_held, crate::specs::Access::get_held, crate::specs::Tape::word_at))]
-    fn put(self, tape: &mut [u32; 67], at: usize) -> usize {
+    fn put(self, tape: &mut [u32; 68], at: usize) -> usize {
         match self {
             Held::Mdio(wanted) => {
                 let at = word(tape, at, 1);
@@ -62,7 +62,7 @@ impl Packed for HoldFor {
     ghost read = { get_hold_for };
 
     #[tactic(auto, unfolding(crate::specs::Access::words_hold_for, crate::specs::Access::get_hold_for, crate::specs::Tape::word_at))]
-    fn put(self, tape: &mut [u32; 67], at: usize) -> usize {
+    fn put(self, tape: &mut [u32; 68], at: usize) -> usize {
         match self {
             HoldFor::Alone => {
                 let at = word(tape, at, 1);
@@ -116,7 +116,7 @@ impl Packed for BitsPlace {
     ghost read = { get_bits_place };
 
     #[tactic(auto, unfolding(crate::specs::Access::words_bits_place, crate::specs::Access::get_bits_place, crate::specs::Tape::word_at))]
-    fn put(self, tape: &mut [u32; 67], at: usize) -> usize {
+    fn put(self, tape: &mut [u32; 68], at: usize) -> usize {
         match self {
             BitsPlace::Plain => {
                 let at = word(tape, at, 1);
@@ -161,7 +161,7 @@ impl Packed for TokenPlace {
     ghost read = { get_token_place };
 
     #[tactic(auto, using(crate::proofs::Laws::word_then), unfolding(crate::specs::Access::words_token_place, crate::specs::Access::get_token_place, crate::specs::Tape::word_at))]
-    fn put(self, tape: &mut [u32; 67], at: usize) -> usize {
+    fn put(self, tape: &mut [u32; 68], at: usize) -> usize {
         match self {
             TokenPlace::Taking(x) => {
                 let at = word(tape, at, 1);
@@ -191,7 +191,7 @@ impl Packed for CommandFor {
     ghost read = { get_command_for };
 
     #[tactic(auto, using(crate::proofs::Laws::word_then, crate::proofs::Laws::joined_back), unfolding(crate::specs::Access::words_command_for, crate::specs::Access::get_command_for, crate::specs::Tape::word_at))]
-    fn put(self, tape: &mut [u32; 67], at: usize) -> usize {
+    fn put(self, tape: &mut [u32; 68], at: usize) -> usize {
         match self {
             CommandFor::Job(x) => {
                 let at = word(tape, at, 1);
@@ -221,7 +221,7 @@ impl Packed for CommandPlace {
     ghost read = { get_command_place };
 
     #[tactic(auto, using(crate::proofs::Laws::word_then), unfolding(crate::specs::Access::words_command_place, crate::specs::Access::get_command_place, crate::specs::Tape::word_at))]
-    fn put(self, tape: &mut [u32; 67], at: usize) -> usize {
+    fn put(self, tape: &mut [u32; 68], at: usize) -> usize {
         match self {
             CommandPlace::Acquiring => {
                 let at = word(tape, at, 1);
@@ -251,7 +251,7 @@ impl Packed for SyncFor {
     ghost read = { get_sync_for };
 
     #[tactic(auto, unfolding(crate::specs::Access::words_sync_for, crate::specs::Access::get_sync_for, crate::specs::Tape::word_at))]
-    fn put(self, tape: &mut [u32; 67], at: usize) -> usize {
+    fn put(self, tape: &mut [u32; 68], at: usize) -> usize {
         match self {
             SyncFor::Bits(bits_place) => {
                 let at = word(tape, at, 1);
@@ -286,7 +286,7 @@ impl Packed for Body {
     ghost read = { get_body };
 
     #[tactic(auto, unfolding(crate::specs::Access::words_body, crate::specs::Access::get_body, crate::specs::Tape::word_at))]
-    fn put(self, tape: &mut [u32; 67], at: usize) -> usize {
+    fn put(self, tape: &mut [u32; 68], at: usize) -> usize {
         match self {
             Body::Mdio(wanted, mdio) => {
                 let at = word(tape, at, 1);
@@ -336,7 +336,7 @@ impl Packed for AccessPlace {
     ghost read = { get_access_place };
 
     #[tactic(auto, unfolding(crate::specs::Access::words_access_place, crate::specs::Access::get_access_place, crate::specs::Tape::word_at))]
-    fn put(self, tape: &mut [u32; 67], at: usize) -> usize {
+    fn put(self, tape: &mut [u32; 68], at: usize) -> usize {
         match self {
             AccessPlace::Reading => {
                 let at = word(tape, at, 1);

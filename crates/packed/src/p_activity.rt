@@ -12,7 +12,7 @@ impl Packed for Activity {
     ghost read = { get_activity };
 
     #[tactic(auto, unfolding(crate::specs::Activity::words_activity, crate::specs::Activity::get_activity, crate::specs::Tape::word_at))]
-    fn put(self, tape: &mut [u32; 67], at: usize) -> usize {
+    fn put(self, tape: &mut [u32; 68], at: usize) -> usize {
         match self {
             Activity::Exchanging(x) => {
                 let at = word(tape, at, 1);

@@ -28,7 +28,7 @@ impl Packed for Mdio {
     ghost read = { get_mdio };
 
     #[tactic(auto, using(crate::proofs::Laws::is_flag), unfolding(crate::specs::After::words_mdio, crate::specs::After::get_mdio, crate::specs::Tape::word_at))]
-    fn put(self, tape: &mut [u32; 67], at: usize) -> usize {
+    fn put(self, tape: &mut [u32; 68], at: usize) -> usize {
         match self {
             Mdio::Modify(register, modify) => {
                 let at = word(tape, at, 1);
@@ -146,7 +146,7 @@ impl Packed for Kr {
     ghost read = { get_kr };
 
     #[tactic(auto, unfolding(crate::specs::After::words_kr, crate::specs::After::get_kr, crate::specs::Tape::word_at))]
-    fn put(self, tape: &mut [u32; 67], at: usize) -> usize {
+    fn put(self, tape: &mut [u32; 68], at: usize) -> usize {
         match self {
             Kr::Modify(change, kr_modify) => {
                 let at = word(tape, at, 1);
@@ -193,7 +193,7 @@ impl Packed for After {
     ghost read = { get_after };
 
     #[tactic(auto, using(crate::proofs::Laws::is_flag), unfolding(crate::specs::After::words_after, crate::specs::After::get_after, crate::specs::Tape::word_at))]
-    fn put(self, tape: &mut [u32; 67], at: usize) -> usize {
+    fn put(self, tape: &mut [u32; 68], at: usize) -> usize {
         match self {
             After::Nothing => {
                 let at = word(tape, at, 1);

@@ -16,7 +16,7 @@ impl Packed for Internal {
     ghost read = { get_internal };
 
     #[tactic(auto, unfolding(crate::specs::Answers::words_internal, crate::specs::Answers::get_internal, crate::specs::Tape::word_at))]
-    fn put(self, tape: &mut [u32; 67], at: usize) -> usize {
+    fn put(self, tape: &mut [u32; 68], at: usize) -> usize {
         match self {
             Internal::Ixfi => word(tape, at, 1),
             Internal::Kr => word(tape, at, 2),
@@ -40,7 +40,7 @@ impl Packed for Setup552 {
     ghost read = { get_setup552 };
 
     #[tactic(auto, using(crate::proofs::Laws::is_flag), unfolding(crate::specs::Answers::words_setup552, crate::specs::Answers::get_setup552, crate::specs::Tape::word_at))]
-    fn put(self, tape: &mut [u32; 67], at: usize) -> usize {
+    fn put(self, tape: &mut [u32; 68], at: usize) -> usize {
         match self {
             Setup552::Kx4 => {
                 let at = word(tape, at, 1);
@@ -121,7 +121,7 @@ impl Packed for Setup553 {
     ghost read = { get_setup553 };
 
     #[tactic(auto, using(crate::proofs::Laws::is_flag), unfolding(crate::specs::Answers::words_setup553, crate::specs::Answers::get_setup553, crate::specs::Tape::word_at))]
-    fn put(self, tape: &mut [u32; 67], at: usize) -> usize {
+    fn put(self, tape: &mut [u32; 68], at: usize) -> usize {
         match self {
             Setup553::Kr { link_ctrl } => {
                 let at = word(tape, at, 1);
@@ -199,7 +199,7 @@ impl Packed for Copper {
     ghost read = { get_copper };
 
     #[tactic(auto, using(crate::proofs::Laws::word_then), unfolding(crate::specs::Answers::words_copper, crate::specs::Answers::get_copper, crate::specs::Tape::word_at))]
-    fn put(self, tape: &mut [u32; 67], at: usize) -> usize {
+    fn put(self, tape: &mut [u32; 68], at: usize) -> usize {
         match self {
             Copper::Down => {
                 let at = word(tape, at, 1);
@@ -247,7 +247,7 @@ impl Packed for Value {
     ghost read = { get_value };
 
     #[tactic(auto, using(crate::proofs::Laws::is_flag), unfolding(crate::specs::Answers::words_value, crate::specs::Answers::get_value, crate::specs::Tape::word_at))]
-    fn put(self, tape: &mut [u32; 67], at: usize) -> usize {
+    fn put(self, tape: &mut [u32; 68], at: usize) -> usize {
         match self {
             Value::Nothing => {
                 let at = word(tape, at, 1);

@@ -21,7 +21,7 @@ impl Packed for Lane {
     ghost read = { get_lane };
 
     #[tactic(auto, using(crate::proofs::Laws::word_then, crate::proofs::Laws::is_flag), unfolding(crate::specs::Bringup::words_lane, crate::specs::Bringup::get_lane, crate::specs::Tape::word_at))]
-    fn put(self, tape: &mut [u32; 67], at: usize) -> usize {
+    fn put(self, tape: &mut [u32; 68], at: usize) -> usize {
         match self {
             Lane::Kr(x) => {
                 let at = word(tape, at, 1);
@@ -51,7 +51,7 @@ impl Packed for Bringup {
     ghost read = { get_bringup };
 
     #[tactic(auto, using(crate::proofs::Laws::is_flag), unfolding(crate::specs::Bringup::words_bringup, crate::specs::Bringup::get_bringup, crate::specs::Tape::word_at))]
-    fn put(self, tape: &mut [u32; 67], at: usize) -> usize {
+    fn put(self, tape: &mut [u32; 68], at: usize) -> usize {
         match self {
             Bringup::Clock(x, clock) => {
                 let at = word(tape, at, 1);

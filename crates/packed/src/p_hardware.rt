@@ -12,7 +12,7 @@ impl Packed for Error {
     ghost read = { get_error };
 
     #[tactic(auto, unfolding(crate::specs::Hardware::words_error, crate::specs::Hardware::get_error, crate::specs::Tape::word_at))]
-    fn put(self, tape: &mut [u32; 67], at: usize) -> usize {
+    fn put(self, tape: &mut [u32; 68], at: usize) -> usize {
         match self {
             Error::Io(x) => {
                 let at = word(tape, at, 1);
@@ -170,7 +170,7 @@ impl Packed for Family {
     ghost read = { get_family };
 
     #[tactic(auto, unfolding(crate::specs::Hardware::words_family, crate::specs::Hardware::get_family, crate::specs::Tape::word_at))]
-    fn put(self, tape: &mut [u32; 67], at: usize) -> usize {
+    fn put(self, tape: &mut [u32; 68], at: usize) -> usize {
         match self {
             Family::X552 => word(tape, at, 1),
             Family::X553 => word(tape, at, 2),
@@ -194,7 +194,7 @@ impl Packed for Action {
     ghost read = { get_action };
 
     #[tactic(auto, unfolding(crate::specs::Hardware::words_action, crate::specs::Hardware::get_action, crate::specs::Tape::word_at))]
-    fn put(self, tape: &mut [u32; 67], at: usize) -> usize {
+    fn put(self, tape: &mut [u32; 68], at: usize) -> usize {
         match self {
             Action::Read(x) => {
                 let at = word(tape, at, 1);

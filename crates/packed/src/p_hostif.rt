@@ -13,7 +13,7 @@ impl Packed for Post {
     ghost read = { get_post };
 
     #[tactic(auto, using(crate::proofs::Laws::joined_back), unfolding(crate::specs::Hostif::words_post, crate::specs::Hostif::get_post, crate::specs::Tape::word_at))]
-    fn put(self, tape: &mut [u32; 67], at: usize) -> usize {
+    fn put(self, tape: &mut [u32; 68], at: usize) -> usize {
         match self {
             Post::Fwsts => {
                 let at = word(tape, at, 1);
@@ -81,7 +81,7 @@ impl Packed for Exchange {
     ghost read = { get_exchange };
 
     #[tactic(auto, using(crate::proofs::Laws::joined_back), unfolding(crate::specs::Hostif::words_exchange, crate::specs::Hostif::get_exchange, crate::specs::Tape::word_at))]
-    fn put(self, tape: &mut [u32; 67], at: usize) -> usize {
+    fn put(self, tape: &mut [u32; 68], at: usize) -> usize {
         match self {
             Exchange::Post(post) => {
                 let at = word(tape, at, 1);

@@ -13,7 +13,7 @@ impl Packed for KrModify {
     ghost read = { get_kr_modify };
 
     #[tactic(auto, using(crate::proofs::Laws::word_then), unfolding(crate::specs::Kr::words_kr_modify, crate::specs::Kr::get_kr_modify, crate::specs::Tape::word_at))]
-    fn put(self, tape: &mut [u32; 67], at: usize) -> usize {
+    fn put(self, tape: &mut [u32; 68], at: usize) -> usize {
         match self {
             KrModify::Reading => {
                 let at = word(tape, at, 1);
@@ -43,7 +43,7 @@ impl Packed for KrPlace {
     ghost read = { get_kr_place };
 
     #[tactic(auto, using(crate::proofs::Laws::is_flag), unfolding(crate::specs::Kr::words_kr_place, crate::specs::Kr::get_kr_place, crate::specs::Tape::word_at))]
-    fn put(self, tape: &mut [u32; 67], at: usize) -> usize {
+    fn put(self, tape: &mut [u32; 68], at: usize) -> usize {
         match self {
             KrPlace::Advertise(x, y) => {
                 let at = word(tape, at, 1);

@@ -13,7 +13,7 @@ impl Packed for Wanted {
     ghost read = { get_wanted };
 
     #[tactic(auto, unfolding(crate::specs::Mdio::words_wanted, crate::specs::Mdio::get_wanted, crate::specs::Tape::word_at))]
-    fn put(self, tape: &mut [u32; 67], at: usize) -> usize {
+    fn put(self, tape: &mut [u32; 68], at: usize) -> usize {
         match self {
             Wanted::Read(x) => {
                 let at = word(tape, at, 1);
@@ -45,7 +45,7 @@ impl Packed for MdioPlace {
     ghost read = { get_mdio_place };
 
     #[tactic(auto, unfolding(crate::specs::Mdio::words_mdio_place, crate::specs::Mdio::get_mdio_place, crate::specs::Tape::word_at))]
-    fn put(self, tape: &mut [u32; 67], at: usize) -> usize {
+    fn put(self, tape: &mut [u32; 68], at: usize) -> usize {
         match self {
             MdioPlace::Address => word(tape, at, 1),
             MdioPlace::Operation => word(tape, at, 2),
@@ -69,7 +69,7 @@ impl Packed for Cycle {
     ghost read = { get_cycle };
 
     #[tactic(auto, using(crate::proofs::Laws::word_then), unfolding(crate::specs::Mdio::words_cycle, crate::specs::Mdio::get_cycle, crate::specs::Tape::word_at))]
-    fn put(self, tape: &mut [u32; 67], at: usize) -> usize {
+    fn put(self, tape: &mut [u32; 68], at: usize) -> usize {
         match self {
             Cycle::Starting => {
                 let at = word(tape, at, 1);
@@ -105,7 +105,7 @@ impl Packed for Mdio {
     ghost read = { get_mdio };
 
     #[tactic(auto, unfolding(crate::specs::Mdio::words_mdio, crate::specs::Mdio::get_mdio, crate::specs::Tape::word_at))]
-    fn put(self, tape: &mut [u32; 67], at: usize) -> usize {
+    fn put(self, tape: &mut [u32; 68], at: usize) -> usize {
         match self {
             Mdio::Value => {
                 let at = word(tape, at, 1);

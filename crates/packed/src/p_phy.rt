@@ -17,7 +17,7 @@ impl Packed for Modify {
     ghost read = { get_modify };
 
     #[tactic(auto, using(crate::proofs::Laws::word_then), unfolding(crate::specs::Phy::words_modify, crate::specs::Phy::get_modify, crate::specs::Tape::word_at))]
-    fn put(self, tape: &mut [u32; 67], at: usize) -> usize {
+    fn put(self, tape: &mut [u32; 68], at: usize) -> usize {
         match self {
             Modify::Reading => {
                 let at = word(tape, at, 1);
@@ -47,7 +47,7 @@ impl Packed for Probe {
     ghost read = { get_probe };
 
     #[tactic(auto, using(crate::proofs::Laws::word_then), unfolding(crate::specs::Phy::words_probe, crate::specs::Phy::get_probe, crate::specs::Tape::word_at))]
-    fn put(self, tape: &mut [u32; 67], at: usize) -> usize {
+    fn put(self, tape: &mut [u32; 68], at: usize) -> usize {
         match self {
             Probe::High => {
                 let at = word(tape, at, 1);
@@ -77,7 +77,7 @@ impl Packed for Reset {
     ghost read = { get_reset };
 
     #[tactic(auto, using(crate::proofs::Laws::word_then), unfolding(crate::specs::Phy::words_reset, crate::specs::Phy::get_reset, crate::specs::Tape::word_at))]
-    fn put(self, tape: &mut [u32; 67], at: usize) -> usize {
+    fn put(self, tape: &mut [u32; 68], at: usize) -> usize {
         match self {
             Reset::Starting => {
                 let at = word(tape, at, 1);
@@ -125,7 +125,7 @@ impl Packed for AnLink {
     ghost read = { get_an_link };
 
     #[tactic(auto, unfolding(crate::specs::Phy::words_an_link, crate::specs::Phy::get_an_link, crate::specs::Tape::word_at))]
-    fn put(self, tape: &mut [u32; 67], at: usize) -> usize {
+    fn put(self, tape: &mut [u32; 68], at: usize) -> usize {
         match self {
             AnLink::First => word(tape, at, 1),
             AnLink::Second => word(tape, at, 2),
@@ -149,7 +149,7 @@ impl Packed for AdvertisePlace {
     ghost read = { get_advertise_place };
 
     #[tactic(auto, unfolding(crate::specs::Phy::words_advertise_place, crate::specs::Phy::get_advertise_place, crate::specs::Tape::word_at))]
-    fn put(self, tape: &mut [u32; 67], at: usize) -> usize {
+    fn put(self, tape: &mut [u32; 68], at: usize) -> usize {
         match self {
             AdvertisePlace::Ten => word(tape, at, 1),
             AdvertisePlace::One => word(tape, at, 2),
@@ -179,7 +179,7 @@ impl Packed for Clock {
     ghost read = { get_clock };
 
     #[tactic(auto, unfolding(crate::specs::Phy::words_clock, crate::specs::Phy::get_clock, crate::specs::Tape::word_at))]
-    fn put(self, tape: &mut [u32; 67], at: usize) -> usize {
+    fn put(self, tape: &mut [u32; 68], at: usize) -> usize {
         match self {
             Clock::Reading => word(tape, at, 1),
             Clock::Writing => word(tape, at, 2),

@@ -15,7 +15,7 @@ impl Packed for KrWanted {
     ghost read = { get_kr_wanted };
 
     #[tactic(auto, unfolding(crate::specs::Sideband::words_kr_wanted, crate::specs::Sideband::get_kr_wanted, crate::specs::Tape::word_at))]
-    fn put(self, tape: &mut [u32; 67], at: usize) -> usize {
+    fn put(self, tape: &mut [u32; 68], at: usize) -> usize {
         match self {
             KrWanted::Read(x) => {
                 let at = word(tape, at, 1);
@@ -47,7 +47,7 @@ impl Packed for Idle {
     ghost read = { get_idle };
 
     #[tactic(auto, unfolding(crate::specs::Sideband::words_idle, crate::specs::Sideband::get_idle, crate::specs::Tape::word_at))]
-    fn put(self, tape: &mut [u32; 67], at: usize) -> usize {
+    fn put(self, tape: &mut [u32; 68], at: usize) -> usize {
         match self {
             Idle::Reading(x) => {
                 let at = word(tape, at, 1);
@@ -79,7 +79,7 @@ impl Packed for Kr {
     ghost read = { get_kr };
 
     #[tactic(auto, using(crate::proofs::Laws::word_then), unfolding(crate::specs::Sideband::words_kr, crate::specs::Sideband::get_kr, crate::specs::Tape::word_at))]
-    fn put(self, tape: &mut [u32; 67], at: usize) -> usize {
+    fn put(self, tape: &mut [u32; 68], at: usize) -> usize {
         match self {
             Kr::First(idle) => {
                 let at = word(tape, at, 1);
@@ -121,7 +121,7 @@ impl Packed for Nvm {
     ghost read = { get_nvm };
 
     #[tactic(auto, using(crate::proofs::Laws::word_then), unfolding(crate::specs::Sideband::words_nvm, crate::specs::Sideband::get_nvm, crate::specs::Tape::word_at))]
-    fn put(self, tape: &mut [u32; 67], at: usize) -> usize {
+    fn put(self, tape: &mut [u32; 68], at: usize) -> usize {
         match self {
             Nvm::Post(post) => {
                 let at = word(tape, at, 1);

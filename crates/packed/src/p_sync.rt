@@ -16,7 +16,7 @@ impl Packed for Smbi {
     ghost read = { get_smbi };
 
     #[tactic(auto, using(crate::proofs::Laws::word_then), unfolding(crate::specs::Sync::words_smbi, crate::specs::Sync::get_smbi, crate::specs::Tape::word_at))]
-    fn put(self, tape: &mut [u32; 67], at: usize) -> usize {
+    fn put(self, tape: &mut [u32; 68], at: usize) -> usize {
         match self {
             Smbi::Reading(x) => {
                 let at = word(tape, at, 1);
@@ -46,7 +46,7 @@ impl Packed for Clear {
     ghost read = { get_clear };
 
     #[tactic(auto, unfolding(crate::specs::Sync::words_clear, crate::specs::Sync::get_clear, crate::specs::Tape::word_at))]
-    fn put(self, tape: &mut [u32; 67], at: usize) -> usize {
+    fn put(self, tape: &mut [u32; 68], at: usize) -> usize {
         match self {
             Clear::Reading => word(tape, at, 1),
             Clear::Writing => word(tape, at, 2),
@@ -70,7 +70,7 @@ impl Packed for Lock {
     ghost read = { get_lock };
 
     #[tactic(auto, unfolding(crate::specs::Sync::words_lock, crate::specs::Sync::get_lock, crate::specs::Tape::word_at))]
-    fn put(self, tape: &mut [u32; 67], at: usize) -> usize {
+    fn put(self, tape: &mut [u32; 68], at: usize) -> usize {
         match self {
             Lock::Smbi(smbi) => {
                 let at = word(tape, at, 1);
@@ -121,7 +121,7 @@ impl Packed for Unlock {
     ghost read = { get_unlock };
 
     #[tactic(auto, using(crate::proofs::Laws::word_then), unfolding(crate::specs::Sync::words_unlock, crate::specs::Sync::get_unlock, crate::specs::Tape::word_at))]
-    fn put(self, tape: &mut [u32; 67], at: usize) -> usize {
+    fn put(self, tape: &mut [u32; 68], at: usize) -> usize {
         match self {
             Unlock::Sync(clear) => {
                 let at = word(tape, at, 1);
@@ -157,7 +157,7 @@ impl Packed for SetMux {
     ghost read = { get_set_mux };
 
     #[tactic(auto, unfolding(crate::specs::Sync::words_set_mux, crate::specs::Sync::get_set_mux, crate::specs::Tape::word_at))]
-    fn put(self, tape: &mut [u32; 67], at: usize) -> usize {
+    fn put(self, tape: &mut [u32; 68], at: usize) -> usize {
         match self {
             SetMux::Reading => word(tape, at, 1),
             SetMux::Writing => word(tape, at, 2),
@@ -184,7 +184,7 @@ impl Packed for AcquireBits {
     ghost read = { get_acquire_bits };
 
     #[tactic(auto, unfolding(crate::specs::Sync::words_acquire_bits, crate::specs::Sync::get_acquire_bits, crate::specs::Tape::word_at))]
-    fn put(self, tape: &mut [u32; 67], at: usize) -> usize {
+    fn put(self, tape: &mut [u32; 68], at: usize) -> usize {
         match self {
             AcquireBits::Locking(x, lock) => {
                 let at = word(tape, at, 1);
@@ -261,7 +261,7 @@ impl Packed for ReleaseBits {
     ghost read = { get_release_bits };
 
     #[tactic(auto, unfolding(crate::specs::Sync::words_release_bits, crate::specs::Sync::get_release_bits, crate::specs::Tape::word_at))]
-    fn put(self, tape: &mut [u32; 67], at: usize) -> usize {
+    fn put(self, tape: &mut [u32; 68], at: usize) -> usize {
         match self {
             ReleaseBits::Switching(set_mux) => {
                 let at = word(tape, at, 1);
@@ -316,7 +316,7 @@ impl Packed for Sync {
     ghost read = { get_sync };
 
     #[tactic(auto, using(crate::proofs::Laws::word_then), unfolding(crate::specs::Sync::words_sync, crate::specs::Sync::get_sync, crate::specs::Tape::word_at))]
-    fn put(self, tape: &mut [u32; 67], at: usize) -> usize {
+    fn put(self, tape: &mut [u32; 68], at: usize) -> usize {
         match self {
             Sync::Take(acquire_bits) => {
                 let at = word(tape, at, 1);

@@ -15,7 +15,7 @@ impl Packed for Poll {
     ghost read = { get_poll };
 
     #[tactic(auto, unfolding(crate::specs::Watch::words_poll, crate::specs::Watch::get_poll, crate::specs::Tape::word_at))]
-    fn put(self, tape: &mut [u32; 67], at: usize) -> usize {
+    fn put(self, tape: &mut [u32; 68], at: usize) -> usize {
         match self {
             Poll::First(an_link) => {
                 let at = word(tape, at, 1);

@@ -12,7 +12,7 @@ impl Packed for Link {
     ghost read = { get_link };
 
     #[tactic(auto, using(crate::proofs::Laws::word_then), unfolding(crate::specs::Words::words_link, crate::specs::Words::get_link, crate::specs::Tape::word_at))]
-    fn put(self, tape: &mut [u32; 67], at: usize) -> usize {
+    fn put(self, tape: &mut [u32; 68], at: usize) -> usize {
         match self {
             Link::Down => {
                 let at = word(tape, at, 1);

@@ -23,7 +23,7 @@ impl Packed for PrepareCopper {
     ghost read = { get_prepare_copper };
 
     #[tactic(auto, using(crate::proofs::Laws::is_flag), unfolding(crate::specs::X552::words_prepare_copper, crate::specs::X552::get_prepare_copper, crate::specs::Tape::word_at))]
-    fn put(self, tape: &mut [u32; 67], at: usize) -> usize {
+    fn put(self, tape: &mut [u32; 68], at: usize) -> usize {
         match self {
             PrepareCopper::Clock(clock) => {
                 let at = word(tape, at, 1);
@@ -125,7 +125,7 @@ impl Packed for CopperLink {
     ghost read = { get_copper_link };
 
     #[tactic(auto, using(crate::proofs::Laws::is_flag), unfolding(crate::specs::X552::words_copper_link, crate::specs::X552::get_copper_link, crate::specs::Tape::word_at))]
-    fn put(self, tape: &mut [u32; 67], at: usize) -> usize {
+    fn put(self, tape: &mut [u32; 68], at: usize) -> usize {
         match self {
             CopperLink::Abilities => {
                 let at = word(tape, at, 1);

@@ -19,7 +19,7 @@ impl Packed for FirmwarePlace {
     ghost read = { get_firmware_place };
 
     #[tactic(auto, unfolding(crate::specs::X553::words_firmware_place, crate::specs::X553::get_firmware_place, crate::specs::Tape::word_at))]
-    fn put(self, tape: &mut [u32; 67], at: usize) -> usize {
+    fn put(self, tape: &mut [u32; 68], at: usize) -> usize {
         match self {
             FirmwarePlace::Reset => word(tape, at, 1),
             FirmwarePlace::Init => word(tape, at, 2),
@@ -46,7 +46,7 @@ impl Packed for PrepareFirmware {
     ghost read = { get_prepare_firmware };
 
     #[tactic(auto, unfolding(crate::specs::X553::words_prepare_firmware, crate::specs::X553::get_prepare_firmware, crate::specs::Tape::word_at))]
-    fn put(self, tape: &mut [u32; 67], at: usize) -> usize {
+    fn put(self, tape: &mut [u32; 68], at: usize) -> usize {
         match self {
             PrepareFirmware::Info(activity) => {
                 let at = word(tape, at, 1);
@@ -87,7 +87,7 @@ impl Packed for Sgmii {
     ghost read = { get_sgmii };
 
     #[tactic(auto, unfolding(crate::specs::X553::words_sgmii, crate::specs::X553::get_sgmii, crate::specs::Tape::word_at))]
-    fn put(self, tape: &mut [u32; 67], at: usize) -> usize {
+    fn put(self, tape: &mut [u32; 68], at: usize) -> usize {
         match self {
             Sgmii::Ctrl(kr_modify) => {
                 let at = word(tape, at, 1);
@@ -158,7 +158,7 @@ impl Packed for SgmiiAn {
     ghost read = { get_sgmii_an };
 
     #[tactic(auto, unfolding(crate::specs::X553::words_sgmii_an, crate::specs::X553::get_sgmii_an, crate::specs::Tape::word_at))]
-    fn put(self, tape: &mut [u32; 67], at: usize) -> usize {
+    fn put(self, tape: &mut [u32; 68], at: usize) -> usize {
         match self {
             SgmiiAn::Ctrl(kr_modify) => {
                 let at = word(tape, at, 1);
@@ -223,7 +223,7 @@ impl Packed for SetupFirmware {
     ghost read = { get_setup_firmware };
 
     #[tactic(auto, using(crate::proofs::Laws::is_flag), unfolding(crate::specs::X553::words_setup_firmware, crate::specs::X553::get_setup_firmware, crate::specs::Tape::word_at))]
-    fn put(self, tape: &mut [u32; 67], at: usize) -> usize {
+    fn put(self, tape: &mut [u32; 68], at: usize) -> usize {
         match self {
             SetupFirmware::Mmngc(firmware_phy, y) => {
                 let at = word(tape, at, 1);

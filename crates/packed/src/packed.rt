@@ -13,7 +13,7 @@ pub trait Packed: Copy {
     ghost read: { List ℕ → Self };
 
     // The answer is the place behind the words.
-    fn put(self, tape: &mut [u32; 67], at: usize) -> usize
+    fn put(self, tape: &mut [u32; 68], at: usize) -> usize
         ensures adds { Adds at tape.old (words self) result tape.new }
         ensures back { (rest : List ℕ) → read (words self ++ rest) ≡ self };
 
@@ -35,7 +35,7 @@ impl Packed for u8 {
     ghost read = { get_byte };
 
     #[tactic(auto, unfolding(crate::specs::Tape::word_at))]
-    fn put(self, tape: &mut [u32; 67], at: usize) -> usize {
+    fn put(self, tape: &mut [u32; 68], at: usize) -> usize {
         word(tape, at, wide_byte(self))
     }
 
@@ -50,7 +50,7 @@ impl Packed for u16 {
     ghost read = { get_half };
 
     #[tactic(auto, unfolding(crate::specs::Tape::word_at))]
-    fn put(self, tape: &mut [u32; 67], at: usize) -> usize {
+    fn put(self, tape: &mut [u32; 68], at: usize) -> usize {
         word(tape, at, wide(self))
     }
 
@@ -65,7 +65,7 @@ impl Packed for u32 {
     ghost read = { get_word };
 
     #[tactic(auto, unfolding(crate::specs::Tape::word_at))]
-    fn put(self, tape: &mut [u32; 67], at: usize) -> usize {
+    fn put(self, tape: &mut [u32; 68], at: usize) -> usize {
         word(tape, at, self)
     }
 
@@ -80,7 +80,7 @@ impl Packed for bool {
     ghost read = { get_flag };
 
     #[tactic(auto, using(crate::proofs::Laws::is_flag), unfolding(crate::specs::Tape::word_at))]
-    fn put(self, tape: &mut [u32; 67], at: usize) -> usize {
+    fn put(self, tape: &mut [u32; 68], at: usize) -> usize {
         flag(tape, at, self)
     }
 
@@ -94,7 +94,7 @@ impl Packed for () {
 
     ghost read = { get_nothing };
 
-    fn put(self, tape: &mut [u32; 67], at: usize) -> usize {
+    fn put(self, tape: &mut [u32; 68], at: usize) -> usize {
         zeros(tape, at, 0)
     }
 
@@ -107,7 +107,7 @@ impl Packed for (u8, u32) {
     ghost read = { get_byte_word };
 
     #[tactic(auto, using(crate::proofs::Laws::word_then), unfolding(crate::specs::Tape::word_at))]
-    fn put(self, tape: &mut [u32; 67], at: usize) -> usize {
+    fn put(self, tape: &mut [u32; 68], at: usize) -> usize {
         let (a, b) = self;
         let at = word(tape, at, wide_byte(a));
         word(tape, at, b)
@@ -124,7 +124,7 @@ impl<T: Part> Packed for Option<T> {
     ghost read = { get_option T.read };
 
     #[tactic(auto, using(crate::proofs::Laws::word_then), unfolding(crate::specs::Packed::words_option, crate::specs::Packed::get_option, crate::specs::Tape::word_at))]
-    fn put(self, tape: &mut [u32; 67], at: usize) -> usize {
+    fn put(self, tape: &mut [u32; 68], at: usize) -> usize {
         match self {
             None => {
                 let at = word(tape, at, 1);
@@ -149,7 +149,7 @@ impl<T: Part> Packed for Option<T> {
 }
 
 // Zeros up to the wider of two.
-fn pad(tape: &mut [u32; 67], at: usize, used: usize, other: usize) -> usize
+fn pad(tape: &mut [u32; 68], at: usize, used: usize, other: usize) -> usize
     ensures { Adds at tape.old (padding used other) result tape.new }
 {
     if used < other {
@@ -165,7 +165,7 @@ impl<T: Part, E: Part> Packed for Result<T, E> {
     ghost read = { get_result T.read E.read };
 
     #[tactic(auto, using(std::proofs::lemmas::List::append_assoc), unfolding(crate::specs::Packed::words_result, crate::specs::Packed::get_result, crate::specs::Tape::word_at))]
-    fn put(self, tape: &mut [u32; 67], at: usize) -> usize {
+    fn put(self, tape: &mut [u32; 68], at: usize) -> usize {
         match self {
             Ok(x) => {
                 let at = word(tape, at, 1);

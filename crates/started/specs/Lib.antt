@@ -1,1 +1,2 @@
 pub mod Operation
+pub mod Standing

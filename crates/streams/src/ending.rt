@@ -1,5 +1,4 @@
 // The listing's last lines.
-ghost use Rattle.std.specs.Prelude.{take};
 ghost use Rattle.lines.specs.Listing.{end_text, stop_text, left_text};
 ghost use Rattle.streams.specs.Output.{PrintsAll};
 
@@ -28,13 +27,13 @@ pub fn stop<W: Write>(
 // The last line of a conversation that has ended.
 pub fn last<W: Write>(
     answer: Result<Value, Error>,
-    block: [u32; 80],
+    block: &[u32],
     actions: u64,
     micros: u64,
     sink: &mut W,
     waiting: &mut Waiting,
 ) -> io::Result<()>
-    ensures { PrintsAll result (W.contents sink.old) waiting.old (end_text answer block actions micros) (W.contents sink.new) waiting.new }
+    ensures { PrintsAll result (W.contents sink.old) waiting.old (end_text answer block.now actions micros) (W.contents sink.new) waiting.new }
 {
     let mut line = Line::new();
     end_line(answer, block, actions, micros, &mut line);
@@ -42,15 +41,10 @@ pub fn last<W: Write>(
 }
 
 // The host block that a `command` leaves.
-pub fn print_left<W: Write>(
-    host: [u32; 80],
-    words: u32,
-    sink: &mut W,
-    waiting: &mut Waiting,
-) -> io::Result<()>
-    ensures { PrintsAll result (W.contents sink.old) waiting.old (left_text (take words host)) (W.contents sink.new) waiting.new }
+pub fn print_left<W: Write>(words: &[u32], sink: &mut W, waiting: &mut Waiting) -> io::Result<()>
+    ensures { PrintsAll result (W.contents sink.old) waiting.old (left_text words.now) (W.contents sink.new) waiting.new }
 {
     let mut line = Line::new();
-    left_line(host, words, &mut line);
+    left_line(words, &mut line);
     waiting.print(sink, line.as_slice())
 }

@@ -39,7 +39,7 @@ fn refusal(port: &PortLine, operation: &Operation) -> Option<u32> {
         (21, is_fiber),
         (22, operation.addresses.iter().any(|address| *address > 31)),
         (31, operation.pairs > 64),
-        (23, operation.block > 16),
+        (23, operation.block > 448),
         (32, port.pause == 0 || port.pause > 100),
         (40, operation.has_bad_windows),
     ];

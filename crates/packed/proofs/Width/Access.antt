@@ -70,6 +70,9 @@ unfolding words_command_place
 command_place_length command_placev.Acquiring = refl
 command_place_length (command_placev.Releasing x0) = simp word_or_error_length
 
+pub drop_command_place : (s : CommandPlace) (rest : List ℕ) → drop 7 (words_command_place s ++ rest) ≡ rest
+drop_command_place s rest = drop_at (words_command_place s) rest 7 (command_place_length s)
+
 pub sync_for_length : (s : SyncFor) → length (words_sync_for s) ≡ 11
 unfolding words_sync_for
 sync_for_length (sync_forv.Bits x0) = simp (length-append, bits_place_length)

@@ -1,4 +1,4 @@
-use Rattle.std.proofs.Common.{arith, ◌≤◌}
+use Rattle.std.proofs.Common.{arith}
 use Rattle.conversation.proofs.PairLaws.{as_many}
 use Rattle.conversation.proofs.conversation.lent.Goals as goal
 
