@@ -15,7 +15,7 @@ use Rattle.access.proofs.Chosen.{token_cut}
 use Rattle.jobs.specs.List.{list_of}
 use Rattle.sync.specs.Sync.{give_bits}
 use Rattle.access.specs.Frame.{command_bits}
-use Rattle.access.specs.Access.{beside, exchange_then, command_synced, rest_of, opened, opening, closed, closing, bits_then, command_then, sync_call, sync_then, resume_place}
+use Rattle.access.specs.Access.{beside, exchange_then, command_synced, rest_of, opened, opening, closed, closing, bits_then, command_then, sync_call, sync_then}
 use Rattle.access.specs.declared.frame.Frame.{Frame}
 use Rattle.access.specs.declared.place.HoldFor.{HoldFor}
 use Rattle.access.specs.declared.place.HoldFor.TheVariants as hold
@@ -27,7 +27,6 @@ use Rattle.access.specs.declared.place.CommandFor.TheVariants as whose
 use Rattle.access.specs.declared.place.CommandPlace.TheVariants as command
 use Rattle.access.specs.declared.place.SyncFor.{SyncFor}
 use Rattle.access.specs.declared.place.SyncFor.TheVariants as why
-use Rattle.access.specs.declared.place.AccessPlace.TheVariants as place
 use Rattle.access.specs.declared.place.Under.{Under}
 
 opened_ask : (f : Frame) (h : HoldFor) (ws : List ℕ) (a : Action) (k : Reply → Call (Unit {0})) → opened f h ws (ask a k) ≡ ask a (λ r. opened f h ws (k r))
@@ -78,11 +77,11 @@ exchange_lem u c ws (end p) = refl
 exchange_lem u c ws (ask a k) = ap (ask a) (fun_ext (λ r. exchange_lem u c ws (k r))) ∙ sym (command_ask u ws c a _)
 
 -- where it begins: `start` is acquire_bits or release_bits
-pub sync_begun : (start : SyncCall → Call (Unit {0})) (u : Under) (w : SyncFor) (b : List ℕ) {call : SyncCall} {a : Action} (s : Sync)
-    → sync_call u w ≡ call → start call ≡ ask a (λ r. resume_sync call s r)
-    → sync_then u w b (start (sync_call u w)) ≡ ask a (λ r. resume_place u (place.Sync w s) b r)
-sync_begun start u w b {call} {a} s is e =
-    ap (sync_then u w b) (subst (λ (c : SyncCall). start c ≡ ask a (λ r. resume_sync c s r)) (sym is) e) ∙ sync_ask u w b a (λ r. resume_sync (sync_call u w) s r)
+pub sync_begun : (start : SyncCall → Call (Unit {0})) (u : Under) (w : SyncFor) (b : List ℕ) {call : SyncCall} {a : Action} (s : Sync) {t : Talk (Res ℕ × List ℕ)}
+    → sync_call u w ≡ call → start call ≡ ask a (λ r. resume_sync call s r) → sync_then u w b (ask a (λ r. resume_sync (sync_call u w) s r)) ≡ t
+    → sync_then u w b (start (sync_call u w)) ≡ t
+sync_begun start u w b {call} {a} s is e f =
+    ap (sync_then u w b) (subst (λ (c : SyncCall). start c ≡ ask a (λ r. resume_sync c s r)) (sym is) e) ∙ f
 
 -- the token is asked for, by its command
 pub ask_begun : (u : Under) (ws : List ℕ) (n : ℕ) {t : Talk (Res ℕ × List ℕ)} → command_then u ws (whose.Token (token.Taking n)) (command_by u.frame (token_words u.frame.lan true)) ≡ t

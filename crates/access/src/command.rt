@@ -52,15 +52,8 @@ impl Under {
                 },
             ),
             Step::Done(result) => {
-                let begun = self.frame.command().give();
                 let why = SyncFor::Command(whose, CommandPlace::Releasing(result));
-                Step::Ask(
-                    begun.action,
-                    Access {
-                        under: self,
-                        place: AccessPlace::Sync(why, begun.state),
-                    },
-                )
+                self.begun(why, self.frame.command().give()).asked()
             }
         }
     }

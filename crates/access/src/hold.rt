@@ -1,16 +1,14 @@
 // sync.rs's `acquire`, `release` and `locked`, with TOKEN.
-ghost use Rattle.std.specs.Prelude.{ℕ, List, [], ◌≡◌, ◌<◌, ◌/◌, ◌%◌, set, take};
+ghost use Rattle.std.specs.Prelude.{ℕ, List, [], ◌≡◌, take};
 ghost use Rattle.hardware.specs.Talk.{and_then, ask, end};
 ghost use Rattle.hardware.specs.Block.{keep};
-ghost use Rattle.words.specs.Mdio.{address};
-ghost use Rattle.reference.specs.Mdio.{read_body};
-ghost use Rattle.reference.specs.Sync.{both, held_done, listed_after, plain};
+ghost use Rattle.reference.specs.Sync.{both, held_done, plain};
 ghost use Rattle.jobs.specs.List.{list_of};
 ghost use Rattle.reference.specs.Acquire.{acquire_lost};
 ghost use Rattle.access.specs.Frame.{acquire_by, acquire_times_by, acquire_ask_by, acquire_got_by, acquire_given_by, release_by, release_rest_by};
 ghost use Rattle.access.specs.declared.place.BitsPlace.TheVariants as bitsv;
 ghost use Rattle.access.specs.declared.place.HoldFor.TheVariants as holdv;
-ghost use Rattle.access.specs.Body.{held_talk, list_from, list_got, told_body};
+ghost use Rattle.access.specs.Body.{held_talk, told_body};
 ghost use Rattle.access.specs.Access.{opening, closing, bodies_then, body_then, bits_then, told_access, resume_access};
 
 use crate::body::{Body, Held};
@@ -19,8 +17,6 @@ use crate::place::{Access, AccessPlace, Begun, BitsPlace, HoldFor, TokenPlace, U
 use hardware::{Action, Error, Step};
 use jobs::job::Ended;
 use jobs::token::Token;
-use mdio::mdio::{Mdio, Wanted};
-use words::msca::address;
 
 // locked's end: the body's error, then the release's.
 pub fn both(res: Result<u32, Error>, released: Result<(), Error>) -> Result<u32, Error>
@@ -31,59 +27,7 @@ pub fn both(res: Result<u32, Error>, released: Result<(), Error>) -> Result<u32,
     Ok(value)
 }
 
-// The list's words to the front of the block.
-#[tactic(auto, unfolding(jobs::specs::List::list_of))]
-fn to_front(block: &mut [u32; 80])
-    ensures { take 64 block.new ≡ list_of block.old }
-{
-    let own = *block;
-    block[..64].copy_from_slice(&own[16..]);
-}
-
-// A value in the place of its pair; one beyond the list is not kept.
-#[tactic(auto, using(crate::proofs::ListLaws::list_set, crate::proofs::ListLaws::list_out))]
-fn put_value(block: &mut [u32; 80], i: u8, v: u32)
-    ensures { list_of block.new ≡ set (list_of block.old) i v }
-{
-    if i < 64 {
-        block[16 + i as usize] = v;
-    }
-}
-
 impl Under {
-    // An end with this many values: they come to the front of the block.
-    #[tactic(auto, using(crate::proofs::ListLaws::front))]
-    fn valued(
-        block: &mut [u32; 80],
-        answer: Result<u32, Error>,
-        values: u8,
-    ) -> Step<Action, Access, Ended<u32>>
-        ensures { told_access block.new result ≡ end (answer, take values (list_of block.old)) }
-    {
-        let words = usize::min(values as usize, 64);
-        if words > 0 {
-            to_front(block);
-        }
-        Step::Done(Ended { answer, words })
-    }
-
-    // The body's error comes with its values, the release's with none.
-    fn given_back(
-        block: &mut [u32; 80],
-        got: Result<u32, Error>,
-        values: u8,
-        released: Result<(), Error>,
-    ) -> Step<Action, Access, Ended<u32>>
-        ensures { told_access block.new result ≡ end (listed_after (got, take values (list_of block.old)) released) }
-    {
-        if let Ok(_) = got {
-            if let Err(e) = released {
-                return Access::gave(Err(e));
-            }
-        }
-        Under::valued(block, got, values)
-    }
-
     // release has ended.
     #[tactic(auto, unfolding(crate::specs::Access::closing))]
     pub fn closed(
@@ -126,7 +70,7 @@ impl Under {
 
     // Whatever the body gave, the mask is given back.
     #[tactic(auto, unfolding(crate::specs::Access::closing))]
-    fn releasing(
+    pub fn releasing(
         self,
         block: &mut [u32; 80],
         got: Result<u32, Error>,
@@ -137,61 +81,6 @@ impl Under {
         let hold = HoldFor::Releasing(got, values);
         let frame = self.frame;
         Under { frame, hold }.release(block)
-    }
-
-    // A list goes on with pair `i`, or has read its last.
-    fn pair(
-        self,
-        block: &mut [u32; 80],
-        phy: u32,
-        i: usize,
-        n: u8,
-    ) -> Step<Action, Access, Ended<u32>>
-        ensures { told_access block.new result ≡ bodies_then self.frame (list_from phy i n (list_of block.old)) }
-    {
-        if i < n as usize && i < 64 {
-            self.read_pair(phy, i, n, block[16 + i])
-        } else {
-            self.releasing(block, Ok(0), usize::min(i, 64) as u8)
-        }
-    }
-
-    // The read of a pair begins.
-    fn read_pair(self, phy: u32, i: usize, n: u8, pair: u32) -> Step<Action, Access, Ended<u32>>
-        requires { i < 64 }
-        ensures { (b : List ℕ) → told_access b result ≡ bodies_then self.frame (and_then (read_body (address phy (pair / 0x10000) (pair % 0x10000))) (list_got phy i n (list_of b))) }
-    {
-        let address = address(phy, pair >> 16, (pair % 0x1_0000) as u16);
-        let hold = HoldFor::Listing(phy, i as u8, n);
-        let begun = Mdio::read(address);
-        let frame = self.frame;
-        Step::Ask(
-            begun.action,
-            Access {
-                under: Under { frame, hold },
-                place: AccessPlace::Body(Body::Mdio(Wanted::Read(address), begun.state)),
-            },
-        )
-    }
-
-    // Pair `i` has been read.
-    fn listed(
-        self,
-        block: &mut [u32; 80],
-        phy: u32,
-        i: u8,
-        n: u8,
-        got: Result<u32, Error>,
-    ) -> Step<Action, Access, Ended<u32>>
-        ensures { told_access block.new result ≡ bodies_then self.frame (list_got phy i n (list_of block.old) got) }
-    {
-        match got {
-            Err(e) => self.releasing(block, Err(e), i),
-            Ok(v) => {
-                put_value(block, i, v);
-                self.pair(block, phy, i as usize + 1, n)
-            }
-        }
     }
 
     // The body has ended: a list goes on with its next pair.

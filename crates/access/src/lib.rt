@@ -7,4 +7,5 @@ pub mod body;
 pub mod command;
 pub mod frame;
 pub mod hold;
+pub mod list;
 pub mod place;

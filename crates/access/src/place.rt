@@ -2,11 +2,11 @@
 ghost use Rattle.std.specs.Prelude.{ℕ, List, [], ◌≡◌, take};
 ghost use Rattle.hardware.specs.Talk.{ask, end};
 ghost use Rattle.jobs.specs.Token.{token_words};
-ghost use Rattle.access.specs.Frame.{bits_of, command_bits, command_by};
+ghost use Rattle.access.specs.Frame.{bits_of, command_by};
 ghost use Rattle.jobs.specs.List.{list_of};
-ghost use Rattle.access.specs.Access.{bits_then, command_then, takes, told_access, sync_call, rest_of, words_of, resume_access};
+ghost use Rattle.access.specs.Access.{bits_then, command_then, takes, told_access, sync_call, sync_then, rest_of, words_of, resume_access};
 ghost use Rattle.access.specs.declared.place.CommandFor.TheVariants as whose;
-ghost use Rattle.sync.specs.Sync.{take_bits, give_bits};
+ghost use Rattle.sync.specs.Sync.{take_bits, give_bits, resume_sync};
 
 use crate::body::{Body, Held};
 use crate::frame::Frame;
@@ -14,7 +14,7 @@ use hardware::{Action, Error, Step};
 use hostif::exchange::Exchange;
 use jobs::job::Ended;
 use jobs::token::Token;
-use sync::sync::{Sync, SyncCall};
+use sync::sync::{Sync, SyncBegun, SyncCall};
 
 // What acquire or release is for.
 #[derive(Clone, Copy)]
@@ -158,32 +158,32 @@ impl Under {
         }
     }
 
-    // acquire_bits of the mask begins.
-    pub fn take(self, place: BitsPlace) -> Begun
-        ensures { (b : List ℕ) → bits_then self (list_of b) place (take_bits (bits_of self.frame)) ≡ ask result.action (λ x. resume_access result.access b x) }
+    // acquire_bits or release_bits has begun.
+    #[tactic(auto, using(crate::proofs::Asks::sync_ask))]
+    pub fn begun(self, why: SyncFor, begun: SyncBegun) -> Begun
+        ensures { (b : List ℕ) → sync_then self why b (ask begun.action (λ x. resume_sync (sync_call self why) begun.state x)) ≡ ask result.action (λ x. resume_access result.access b x) }
     {
-        let begun = self.frame.bits().take();
         Begun {
             action: begun.action,
             access: Access {
                 under: self,
-                place: AccessPlace::Sync(SyncFor::Bits(place), begun.state),
+                place: AccessPlace::Sync(why, begun.state),
             },
         }
+    }
+
+    // acquire_bits of the mask begins.
+    pub fn take(self, place: BitsPlace) -> Begun
+        ensures { (b : List ℕ) → bits_then self (list_of b) place (take_bits (bits_of self.frame)) ≡ ask result.action (λ x. resume_access result.access b x) }
+    {
+        self.begun(SyncFor::Bits(place), self.frame.bits().take())
     }
 
     // release_bits of the mask begins.
     pub fn give(self, place: BitsPlace) -> Begun
         ensures { (b : List ℕ) → bits_then self (list_of b) place (give_bits (bits_of self.frame)) ≡ ask result.action (λ x. resume_access result.access b x) }
     {
-        let begun = self.frame.bits().give();
-        Begun {
-            action: begun.action,
-            access: Access {
-                under: self,
-                place: AccessPlace::Sync(SyncFor::Bits(place), begun.state),
-            },
-        }
+        self.begun(SyncFor::Bits(place), self.frame.bits().give())
     }
 
     // The token's command begins.
@@ -201,14 +201,7 @@ impl Under {
     pub fn command(self, whose: CommandFor) -> Begun
         ensures { (b : List ℕ) → command_then self (rest_of whose b) whose (command_by self.frame (take (words_of whose) b)) ≡ ask result.action (λ x. resume_access result.access b x) }
     {
-        let begun = self.frame.command().take();
         let why = SyncFor::Command(whose, CommandPlace::Acquiring);
-        Begun {
-            action: begun.action,
-            access: Access {
-                under: self,
-                place: AccessPlace::Sync(why, begun.state),
-            },
-        }
+        self.begun(why, self.frame.command().take())
     }
 }

@@ -1,5 +1,5 @@
--- An answer's words in a listing: an enum is its place in the Rust from 0 (held, which the Rust has not, the next), then its fields; an absent option is 0, a present
--- one 1 and its value; a truth value is 0 or 1
+-- An answer's words in a listing: an enum is its place in the Rust from 0 (held, which the Rust has not, the next), then its fields;
+-- an absent option is 0, a present one 1 and its value; a truth value is 0 or 1
 use Rattle.std.specs.Prelude.{ℕ, Bool, true, false, List, [], ◌∷◌, ◌++◌, take, Option, None, Some}
 use Rattle.words.specs.declared.link.Link.{Link}
 use Rattle.words.specs.declared.link.Link.TheVariants as linkv

@@ -3,6 +3,7 @@ use Rattle.hardware.specs.Talk.{Talk, ask, end, pick, Reply}
 use Rattle.std.proofs.Common.{◌≡◌, ℕ, suc, ◌+◌, ◌-◌, ◌<◌, ◌≤◌, Bool, true, false, nat_lt, true≢false, List, [], ◌∷◌, ◌++◌, length, get_or, take, drop, set, sym, refl, ap, ◌∙◌, add-zero, add_assoc, add-suc, suc-add, zero-add, arith, length-drop, take-append-drop, length-take-le, drop-drop, le-ltb, lt-ltb}
 use lib.Seq.{sets, length-sets}
 use Rattle.hardware.specs.declared.Port.{Port}
+use Rattle.hardware.proofs.TwoByTwo.{lone, first_two, just_two}
 use Rattle.hardware.specs.declared.Action.{Action}
 use Rattle.drive.specs.Act.{uses, words, reply_for}
 use Rattle.std.specs.Prelude.{Result, Err, Option, None, Some}
@@ -86,21 +87,17 @@ module _ (lent : Bool) (c : Conv) (kind value : ℕ) where
         go false false h = absurd (no_stop (sym h))
 
 -- the script's check, two words at a time
+abbrev either : (kind value : ℕ) → Bool → Bool
+either kind value rest = pick (nat_lt 1 kind) true rest
+
 pub bad_short : (rs : List ℕ) → 0 < length rs → length rs < 2 → bad rs ≡ true
-bad_short [] h k = absurd (omega (arith, h))
-bad_short (kind ∷ []) h k = refl
-bad_short (kind ∷ value ∷ rs) h k = absurd (omega (arith, k))
+bad_short rs h k = lone bad rs h k
 
 pub bad_first : (p q : List ℕ) → 2 ≤ length p → 1 < get_or p 0 0 → bad (p ++ q) ≡ true
-bad_first [] q h k = absurd (omega (arith, h))
-bad_first (kind ∷ []) q h k = absurd (omega (arith, h))
-bad_first (kind ∷ value ∷ p) q h k = simp (lt-ltb _ _ k)
+bad_first p q h k = first_two bad either (λ x y ws. refl) p q h ∙ simp (lt-ltb _ _ k)
 
 pub bad_then : (p q : List ℕ) → length p ≡ 2 → get_or p 0 0 ≤ 1 → bad (p ++ q) ≡ bad q
-bad_then [] q h k = absurd (omega (arith, h))
-bad_then (kind ∷ []) q h k = absurd (omega (arith, h))
-bad_then (kind ∷ value ∷ []) q h k = simp (le-ltb _ _ k)
-bad_then (kind ∷ value ∷ w ∷ p) q h k = absurd (omega (arith, h))
+bad_then p q h k = just_two bad either (λ x y ws. refl) p q h ∙ simp (le-ltb _ _ k)
 
 -- how a run goes on, and where it stops
 

@@ -26,7 +26,7 @@ use Rattle.words.proofs.Theorems.Mdio.{read_cycle_document, apart_made}
 use Rattle.reference.specs.Acquire.{acquire, release}
 use Rattle.reference.specs.Mdio.{cycle, cycle_turn, mask, read_body, read_reg, list_body, mdio_list}
 use Rattle.reference.specs.Out.{Out, answer}
-use Rattle.reference.specs.Sync.{plain, with_values, listed_after, both, held, held_done, held_taken}
+use Rattle.reference.specs.Sync.{Ending, plain, with_values, listed_after, both, held, held_done, held_taken}
 use Rattle.operations.specs.Operations.{list_operation}
 use Rattle.operations.specs.Pairs.{pairs_of, outside}
 use Rattle.operations.specs.Request.{request, refused}
@@ -37,6 +37,7 @@ use Rattle.hardware.proofs.Refusal.{taken}
 use Rattle.drive.specs.Act.{uses, reply_for}
 use Rattle.std.specs.Prelude.{nat_lt, drop, ◌-◌, ltb}
 use borrow.Author.Tests.{ltb-false, le-ltb}
+use Rattle.std.proofs.lemmas.Bool.{or_parts}
 use mathlib.Core.Bool.{◌||◌}
 use Rattle.calls.specs.Run.{Run, stopped, before, run_talk, tape_of, Shown, run_on, run_into, bad, refused_run, run_all}
 use Rattle.calls.specs.Run as run
@@ -127,16 +128,17 @@ good_plain (Err e) r h = no_error h
 good_plain (Ok v) (Err e) h = no_error h
 good_plain (Ok v) (Ok _) h = (h, refl)
 
-module _ (take give : Call (Unit {0})) where
-  pub held_list : {A : Type 0} (body : Talk (Res A × List ℕ)) {rs : List Reply} {ds : List Action} {v : A} {vs : List ℕ}
-      → Goes (held with_values take give body) rs ds (Ok v, vs) → Held take give body rs ds (Ok v, vs)
-  held_list {A} body {rs} {ds} {v} {vs} g = let p = apart take (held_taken with_values give body) g in go p p.first refl
+-- a bracket whose end no error and no other end of the body gives: take and give went well, and the body ended so
+module _ {X : Type 0} (ending : Ending X) {x : X} (no_before : (e : Error) → ending.before e ≡ x → ⊥)
+    (only_after : (y : X) (r : Res (Unit {0})) → ending.after y r ≡ x → (y ≡ x) × (r ≡ Ok tt)) (take give : Call (Unit {0})) (body : Talk X) where
+  held_well : {rs : List Reply} {ds : List Action} → Goes (held ending take give body) rs ds x → Held take give body rs ds x
+  held_well {rs} {ds} g = let p = apart take (held_taken ending give body) g in go p p.first refl
     where
-      here : (p : Two take (held_taken with_values give body) rs ds (Ok v, vs)) → p.first ≡ Ok tt
-          → Two body (held_done with_values give) p.more p.behind (Ok v, vs) → Held take give body rs ds (Ok v, vs)
+      here : (p : Two take (held_taken ending give body) rs ds x) → p.first ≡ Ok tt → Two body (held_done ending give) p.more p.behind x
+          → Held take give body rs ds x
       here p is q =
-          let r = last give (listed_after q.first) q.two in
-          let w = good_list q.first r.value r.is in
+          let r = last give (ending.after q.first) q.two in
+          let w = only_after q.first r.value r.is in
           record {
             taking = p.replies;
             doing = q.replies;
@@ -144,43 +146,16 @@ module _ (take give : Call (Unit {0})) where
             taken = p.done;
             done = q.done;
             given = q.behind;
-            both_replies = p.both_replies ∙ ap (λ (x : List Reply). p.replies ++ x) q.both_replies;
-            both_done = p.both_done ∙ ap (λ (x : List Action). p.done ++ x) q.both_done;
-            takes = subst (λ (x : Res (Unit {0})). Goes take p.replies p.done x) is p.one;
-            bodies = subst (λ (x : Res A × List ℕ). Goes body q.replies q.done x) w.0 q.one;
-            gives = subst (λ (x : Res (Unit {0})). Goes give q.more q.behind x) w.1 r.goes;
+            both_replies = p.both_replies ∙ ap (λ (l : List Reply). p.replies ++ l) q.both_replies;
+            both_done = p.both_done ∙ ap (λ (l : List Action). p.done ++ l) q.both_done;
+            takes = subst (λ (r : Res (Unit {0})). Goes take p.replies p.done r) is p.one;
+            bodies = subst (λ (y : X). Goes body q.replies q.done y) w.0 q.one;
+            gives = subst (λ (r : Res (Unit {0})). Goes give q.more q.behind r) w.1 r.goes;
           }
 
-      go : (p : Two take (held_taken with_values give body) rs ds (Ok v, vs)) (r : Res (Unit {0})) → p.first ≡ r → Held take give body rs ds (Ok v, vs)
-      go p (Ok _) is = here p is (apart body (held_done with_values give) (subst (λ (r : Res (Unit {0})). Goes (held_taken with_values give body r) p.more p.behind (Ok v, vs)) is p.two))
-      go p (Err e) is = not_bad (ends_with (subst (λ (r : Res (Unit {0})). Goes (held_taken with_values give body r) p.more p.behind (Ok v, vs)) is p.two)).0
-
-  pub held_word : {A : Type 0} (body : Call A) {rs : List Reply} {ds : List Action} {v : A}
-      → Goes (held plain take give body) rs ds (Ok v) → Held take give body rs ds (Ok v)
-  held_word {A} body {rs} {ds} {v} g = let p = apart take (held_taken plain give body) g in go p p.first refl
-    where
-      here : (p : Two take (held_taken plain give body) rs ds (Ok v)) → p.first ≡ Ok tt
-          → Two body (held_done plain give) p.more p.behind (Ok v) → Held take give body rs ds (Ok v)
-      here p is q =
-          let r = last give (both q.first) q.two in
-          let w = good_plain q.first r.value r.is in
-          record {
-            taking = p.replies;
-            doing = q.replies;
-            giving = q.more;
-            taken = p.done;
-            done = q.done;
-            given = q.behind;
-            both_replies = p.both_replies ∙ ap (λ (x : List Reply). p.replies ++ x) q.both_replies;
-            both_done = p.both_done ∙ ap (λ (x : List Action). p.done ++ x) q.both_done;
-            takes = subst (λ (x : Res (Unit {0})). Goes take p.replies p.done x) is p.one;
-            bodies = subst (λ (x : Res A). Goes body q.replies q.done x) w.0 q.one;
-            gives = subst (λ (x : Res (Unit {0})). Goes give q.more q.behind x) w.1 r.goes;
-          }
-
-      go : (p : Two take (held_taken plain give body) rs ds (Ok v)) (r : Res (Unit {0})) → p.first ≡ r → Held take give body rs ds (Ok v)
-      go p (Ok _) is = here p is (apart body (held_done plain give) (subst (λ (r : Res (Unit {0})). Goes (held_taken plain give body r) p.more p.behind (Ok v)) is p.two))
-      go p (Err e) is = no_error (ends_with (subst (λ (r : Res (Unit {0})). Goes (held_taken plain give body r) p.more p.behind (Ok v)) is p.two)).0
+      go : (p : Two take (held_taken ending give body) rs ds x) (r : Res (Unit {0})) → p.first ≡ r → Held take give body rs ds x
+      go p (Ok _) is = here p is (apart body (held_done ending give) (subst (λ (r : Res (Unit {0})). Goes (held_taken ending give body r) p.more p.behind x) is p.two))
+      go p (Err e) is = absurd (no_before e (ends_with (subst (λ (r : Res (Unit {0})). Goes (held_taken ending give body r) p.more p.behind x) is p.two)).0)
 
 -- ---- pair by pair
 
@@ -427,20 +402,12 @@ module _ (value : ℕ → ℕ → ℕ → ℕ) where
 
 -- ---- the theorems: the values
 
-passed : (b : Bool) {c : Bool} → pick b true c ≡ false → (b ≡ false) × (c ≡ false)
-passed true h = absurd (true≢false h)
-passed false h = (refl, h)
-
-neither : (a b : Bool) → (a || b) ≡ false → (a ≡ false) × (b ≡ false)
-neither true b h = absurd (true≢false h)
-neither false b h = (refl, h)
-
 fit_of : (ws : List ℕ) → outside ws ≡ false → Fit (pairs_of ws)
 fit_of [] h = tt
 fit_of (device ∷ []) h = tt
 fit_of (device ∷ register ∷ rest) h =
-    let here = passed (ltb 31 device || ltb 0xffff register) h in
-    let fits = neither (ltb 31 device) (ltb 0xffff register) here.0 in
+    let here = or_parts (ltb 31 device || ltb 0xffff register) _ h in
+    let fits = or_parts (ltb 31 device) _ here.0 in
     (ltb-false _ _ fits.0, (ltb-false _ _ fits.1, fit_of rest here.1))
 
 list_taken : (port : Port) (phy : ℕ) (ws : List ℕ) → refused port (MdioList phy) ws ≡ Ok tt → (phy ≤ 31) × (outside ws ≡ false)
@@ -456,7 +423,7 @@ good_chain : (port : Port) (phy : ℕ) (pair : ℕ × ℕ) (rest : List (ℕ × 
     → Goes (mdio_list port phy (pair ∷ rest)) rs ds (Ok tt, vs)
     → Held (acquire port (mask port)) (release port (mask port)) (list_body phy (pair ∷ rest) []) rs ds (Ok tt, vs)
 unfolding mdio_list
-good_chain port phy pair rest g = held_list (acquire port (mask port)) (release port (mask port)) (list_body phy (pair ∷ rest) []) g
+good_chain port phy pair rest g = held_well with_values (λ e h. not_bad h) (λ y r h. good_list y r h) (acquire port (mask port)) (release port (mask port)) (list_body phy (pair ∷ rest) []) g
 
 none_listed : (port : Port) (phy : ℕ) {rs : List Reply} {ds : List Action} {vs : List ℕ} → Goes (mdio_list port phy []) rs ds (Ok tt, vs) → vs ≡ []
 unfolding mdio_list
@@ -488,7 +455,7 @@ module _ (value : ℕ → ℕ → ℕ → ℕ) (port : Port) (phy : ℕ) where
   single_value device register word r s =
       let b = begun_well (answer valuev.Word (read_reg port phy device register)) (refused port (ReadReg phy device register) []) s.goes in
       let t = read_taken port phy device register b.0 in
-      let did = held_word (acquire port (mask port)) (release port (mask port)) (read_body (address phy device register)) (word_well (read_reg port phy device register) b.1) in
+      let did = held_well plain (λ e h. no_error h) (λ y r h. good_plain y r h) (acquire port (mask port)) (release port (mask port)) (read_body (address phy device register)) (word_well (read_reg port phy device register) b.1) in
       let behind = (gave_apart value s.last (did.doing ++ did.giving) (did.done ++ did.given) did.takes (both_gave value s.last did.both_replies did.both_done s.gave)).1 in
       let here = (gave_apart value (after s.last did.taken) did.giving did.given did.bodies behind).0 in
       read_gave value phy device register t.0 t.1 r (after s.last did.taken) did.bodies here
@@ -617,7 +584,7 @@ unfolding refusal request
 one_request port phy device register h =
     rw (same (ltb 31 phy) (ltb 31 device) (ltb 0xffff register) (le-ltb _ _ h)) refl
   where
-    same : (a b c : Bool) → c ≡ false → (a || false || pick (b || c) true false) ≡ (a || b || false)
+    same : (a b c : Bool) → c ≡ false → (a || false || ((b || c) || false)) ≡ (a || b || false)
     same true b c e = refl
     same false true c e = refl
     same false false c e = rw e

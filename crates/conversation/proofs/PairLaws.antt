@@ -1,38 +1,37 @@
 -- Pairs of device and register, one word each
 use Prim.Native.Nat.{ℕ, suc, ◌+◌, ◌*◌, ◌/◌, ◌%◌, ◌<◌, ◌≤◌}
 use mathlib.Core.Path.{◌≡◌, refl, ap, sym, ◌∙◌}
-use mathlib.Core.Bool.{Bool, true, false, ◌||◌, true≢false}
+use mathlib.Core.Bool.{Bool, true, false, ◌||◌}
 use mathlib.Core.List.{List, [], ◌∷◌, ◌++◌}
 use native.Mathlib.Omega.{arith}
 use native.Mathlib.Numerals.{add-one}
 use borrow.Author.Tests.{ltb-false}
+use Rattle.std.proofs.lemmas.Bool.{or_parts}
 use lib.Dec.{ltb}
 use lib.ListN.{length, get_or, set, take, drop}
 use lib.Seq.{sets}
 use Rattle.std.proofs.Common.{replicate, take_at}
 use Rattle.std.proofs.lemmas.List.Edits.{sets-eq}
-use Rattle.hardware.specs.Talk.{pick}
+use Rattle.hardware.proofs.TwoByTwo.{lone, just_two}
 use Rattle.jobs.specs.List.{list_of, pair_word, pairs_in}
 use Rattle.operations.specs.Pairs.{pairs_of, outside}
 use Rattle.conversation.specs.Begun.{pair_words}
 
+abbrev with_pair : (device register : ℕ) → List ℕ → List ℕ
+with_pair device register rest = pair_word device register ∷ rest
+
 pub pair_short : (ws : List ℕ) → length ws < 2 → pair_words ws ≡ []
 pair_short [] h = refl
-pair_short (device ∷ []) h = refl
-pair_short (device ∷ register ∷ rest) h = absurd (omega (arith, h))
+pair_short (w ∷ ws) h = lone pair_words (w ∷ ws) (omega arith) h
 
 pub pairs_more : (p q : List ℕ) → length p ≡ 2 → length (pair_words (p ++ q)) ≡ length (pair_words q) + 1
-pairs_more [] q h = absurd (omega (arith, h))
-pairs_more (device ∷ []) q h = absurd (omega (arith, h))
-pairs_more (device ∷ register ∷ []) q h = omega arith
-pairs_more (device ∷ register ∷ w ∷ p) q h = absurd (omega (arith, h))
+pairs_more p q h = ap length (just_two pair_words with_pair (λ x y ws. refl) p q h) ∙ sym (add-one (length (pair_words q)))
 
 pub pair_then : (p q own : List ℕ) (at : ℕ) → length p ≡ 2
     → sets own at (pair_words (p ++ q)) ≡ sets (set own at (get_or p 0 0 % 0x10000 * 0x10000 + get_or p 1 0 % 0x10000)) (at + 1) (pair_words q)
-pair_then [] q own at h = absurd (omega (arith, h))
-pair_then (device ∷ []) q own at h = absurd (omega (arith, h))
-pair_then (device ∷ register ∷ []) q own at h = ap (λ (n : ℕ). sets (set own at (pair_word device register)) n (pair_words q)) (sym (add-one at))
-pair_then (device ∷ register ∷ w ∷ p) q own at h = absurd (omega (arith, h))
+pair_then p q own at h =
+    ap (sets own at) (just_two pair_words with_pair (λ x y ws. refl) p q h)
+    ∙ ap (λ (n : ℕ). sets (set own at (pair_word (get_or p 0 0) (get_or p 1 0))) n (pair_words q)) (sym (add-one at))
 
 pub as_many : (ws : List ℕ) → length (pair_words ws) ≡ length (pairs_of ws)
 as_many [] = refl
@@ -43,21 +42,13 @@ in_range : (device register : ℕ) → device ≤ 31 → register ≤ 0xffff
     → (pair_word device register / 0x10000 ≡ device) × (pair_word device register % 0x10000 ≡ register)
 in_range device register h k = (omega (arith, h, k), omega (arith, h, k))
 
-passed : (b : Bool) {c : Bool} → pick b true c ≡ false → (b ≡ false) × (c ≡ false)
-passed true h = absurd (true≢false h)
-passed false h = (refl, h)
-
-neither : (a b : Bool) → (a || b) ≡ false → (a ≡ false) × (b ≡ false)
-neither true b h = absurd (true≢false h)
-neither false b h = (refl, h)
-
 -- the pairs are read back, where none is out of range
 pub read_back : (ws : List ℕ) → outside ws ≡ false → pairs_in (pair_words ws) ≡ pairs_of ws
 read_back [] h = refl
 read_back (device ∷ []) h = refl
 read_back (device ∷ register ∷ rest) h =
-    let here = passed (ltb 31 device || ltb 0xffff register) h in
-    let fits = neither (ltb 31 device) (ltb 0xffff register) here.0 in
+    let here = or_parts (ltb 31 device || ltb 0xffff register) _ h in
+    let fits = or_parts (ltb 31 device) _ here.0 in
     let pair = in_range device register (ltb-false _ _ fits.0) (ltb-false _ _ fits.1) in
     ap (λ (d : ℕ). (d, pair_word device register % 0x10000) ∷ pairs_in (pair_words rest)) pair.0
     ∙ ap (λ (r : ℕ). (device, r) ∷ pairs_in (pair_words rest)) pair.1

@@ -365,8 +365,7 @@ impl Conversation {
 
     // Hands the words of a `command` that has ended, well or not, back to the block that they came from; and the values of an
     // `mdio_list`, of one that a read ended those before it. A block of another length than the answer has words is 23 and stays
-    // as it was, and so is any block before the end. Words
-    // that were lent are there already.
+    // as it was, and so is any block before the end. Words that were lent are there already.
     pub fn hand_back(self, block: &mut [u32]) -> Result<(), Error>
         ensures { (result, block.new) ≡ handed_lent (is_own self block.old) (conv_of self block.old).talk block.old }
     {

@@ -1,5 +1,5 @@
 -- The laws of conversations: going on from an end, regrouping, and a bounded loop by the code's count of the turns left
-use Prim.Native.Nat.{ℕ, suc, ◌+◌, ◌-◌, ◌≤◌, ◌<◌}
+use Prim.Native.Nat.{ℕ, zero, suc, ◌+◌, ◌-◌, ◌≤◌, ◌<◌}
 use mathlib.Core.Path.{◌≡◌, refl, ap, fun_ext, ◌∙◌}
 use native.Mathlib.Omega.{arith}
 use Rattle.hardware.specs.Talk.{Talk, Reply, end, ask, and_then, times}
@@ -19,6 +19,12 @@ then_assoc (ask a c) k l = ap (ask a) (fun_ext (λ r. then_assoc (c r) k l))
 pub then_said : {S T A B : Type 0} (r : T → Reply → Talk B) (s : Step Action T B) (q : S → Reply → Talk A) (step : Step Action S A) (k : A → Talk B) {t : Talk A}
     → told r s ≡ and_then (told q step) k → told q step ≡ t → told r s ≡ and_then t k
 then_said r s q step k e f = e ∙ ap (λ u. and_then u k) f
+
+-- a loop keeps what each turn keeps
+pub by_turns : {X : Type 0} (P : X → Type 0) (turn : X → X) (after : X) → ((x : X) → P x → P (turn x)) → P after → (n : ℕ) → P (times n turn after)
+unfolding times
+by_turns P turn after h z zero = z
+by_turns P turn after h z (suc n) = h (times n turn after) (by_turns P turn after h z n)
 
 pub times_none : {n : ℕ} → n ≡ 0 → {X : Type 0} (turn : X → X) (after : X) → times n turn after ≡ after
 unfolding times

@@ -1,4 +1,5 @@
 pub mod Laws
+pub mod TwoByTwo
 pub mod Bits
 pub mod Refusal
 pub mod Bounds

@@ -2,9 +2,10 @@
 use Rattle.std.specs.Prelude.{Ok, Err}
 use Prim.Native.Nat.{ℕ, ◌≤◌}
 use mathlib.Core.Path.{◌≡◌, refl}
-use mathlib.Core.Bool.{Bool, true, false, ◌||◌, true≢false}
+use mathlib.Core.Bool.{Bool, true, false, ◌||◌}
 use native.Mathlib.Omega.{arith}
 use borrow.Author.Tests.{ltb-false}
+use Rattle.std.proofs.lemmas.Bool.{or_parts}
 use lib.Dec.{eqb, ltb}
 use Rattle.hardware.specs.Talk.{Res, pick}
 use Rattle.hardware.specs.Refusal.{is_fiber, refusal}
@@ -33,10 +34,6 @@ passed : (b : Bool) (e : Error) {rest : Res (Unit {0})} → pick b (Err e) rest 
 passed true e h = not_both h
 passed false e h = (refl, h)
 
-neither : (a b : Bool) → (a || b) ≡ false → (a ≡ false) × (b ≡ false)
-neither true b h = absurd (true≢false h)
-neither false b h = (refl, h)
-
 pub taken : (r : Request) → refusal r ≡ Ok tt → Taken r
 unfolding refusal
 taken r h =
@@ -47,11 +44,11 @@ taken r h =
     let list = passed (ltb 64 r.pairs) Pairs kr.1 in
     let block = passed (ltb 448 r.words) Block list.1 in
     let paused = passed (eqb r.port.pause 0 || ltb 100 r.port.pause) Pause block.1 in
-    let pause = neither (eqb r.port.pause 0) (ltb 100 r.port.pause) paused.0 in
+    let pause = or_parts (eqb r.port.pause 0) (ltb 100 r.port.pause) paused.0 in
     let windows = passed r.bad_windows Windows paused.1 in
-    let pairs = neither (ltb 31 r.phy || ltb 31 r.device) r.outside mdio.0 in
-    let addresses = neither (ltb 31 r.phy) (ltb 31 r.device) pairs.0 in
-    let registers = neither (ltb 0xffff r.kr) (ltb 0xffff r.selected) kr.0 in
+    let pairs = or_parts (ltb 31 r.phy || ltb 31 r.device) r.outside mdio.0 in
+    let addresses = or_parts (ltb 31 r.phy) (ltb 31 r.device) pairs.0 in
+    let registers = or_parts (ltb 0xffff r.kr) (ltb 0xffff r.selected) kr.0 in
     record {
       lan = ltb-false _ _ lan.0;
       fiber = fiber.0;

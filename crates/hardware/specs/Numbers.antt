@@ -1,5 +1,5 @@
--- All numbers of the part, and the values that go with each: document 01's table in its order, 35, 31, 32 and 40 of document 02 where
--- they are tested, then the calls from C
+-- All numbers of the part, and the values that go with each: document 01's table in its order, 35, 31, 32 and 40 of document 02
+-- where they are tested, then the calls from C
 use Rattle.std.specs.Prelude.{ℕ, List, [], ◌∷◌}
 use Rattle.hardware.specs.declared.Error.{Error}
 use Rattle.hardware.specs.declared.Misuse.{Misuse}

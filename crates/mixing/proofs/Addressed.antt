@@ -16,7 +16,8 @@ use Rattle.mixing.specs.Addressed.{InRange, Addressed}
 use Rattle.mixing.specs.Model.{kind}
 use Rattle.mixing.specs.Only.{only_end, only_ask}
 use Rattle.mixing.specs.System.{NotIosf, Outside}
-use Rattle.mixing.proofs.Only.{by_turns, Quiet, only_bind, only_pick, only_raw, only_write, only_wait, quiet_only}
+use Rattle.hardware.proofs.Laws.{by_turns}
+use Rattle.mixing.proofs.Only.{Quiet, only_bind, only_pick, only_raw, only_write, only_wait, quiet_only}
 use Rattle.mixing.proofs.Plain.{Plain}
 
 -- ---- neither CTRL nor DATA

@@ -18,7 +18,8 @@ use Rattle.words.specs.Semaphore.{software}
 use Rattle.words.proofs.Theorems.Semaphore.{software_rust}
 use Rattle.reference.specs.Sync.{lock, unlock, busy, set_mux, acquire_bits_turn, release_bits_locked}
 use Rattle.mixing.specs.Model.{fw_bits}
-use Rattle.mixing.proofs.Only.{by_turns, far, Quiet, only_bind, only_read, only_write, quiet_flush}
+use Rattle.hardware.proofs.Laws.{by_turns}
+use Rattle.mixing.proofs.Only.{far, Quiet, only_bind, only_read, only_write, quiet_flush}
 use Rattle.mixing.proofs.Wp.{View, with_smbi, stores, Found, MayStore, Wp, wp_end, wp_ask, wp_then, wp_attempt, wp_pick, quiet_wp}
 use Rattle.mixing.proofs.Lock.{or_stop_lem, lock_goes, unlock_goes, clear_sync, sync_read_held, sync_write, is_false, and_left}
 

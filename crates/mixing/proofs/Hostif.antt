@@ -40,7 +40,8 @@ use Rattle.reference.specs.Sync.{with_block}
 use Rattle.mixing.specs.Only.{only_end}
 use Rattle.mixing.specs.Model.{kind}
 use Rattle.mixing.specs.Events.{is_ok}
-use Rattle.mixing.proofs.Only.{by_turns, IsFar, far, Quiet, only_then, only_stop, only_bind, only_pick, only_read, only_raw, only_write, only_wait, quiet_only}
+use Rattle.hardware.proofs.Laws.{by_turns}
+use Rattle.mixing.proofs.Only.{IsFar, far, Quiet, only_then, only_stop, only_bind, only_pick, only_read, only_raw, only_write, only_wait, quiet_only}
 use Rattle.mixing.proofs.Plain.{Plain, plain_held, plain_acquire, plain_release}
 use Rattle.mixing.specs.System.{NotIosf}
 use Rattle.mixing.proofs.Sound.{Sound, well_block, quietly, ends, picks, waits, bind_lent, under, honest_block, bits_bracket}

@@ -11,7 +11,7 @@ use Rattle.hardware.specs.declared.Error.TheVariants.{Timeout}
 use Rattle.hardware.specs.declared.Family.{Family}
 use Rattle.hardware.specs.declared.Family.TheVariants.{X552, X553}
 use Rattle.hardware.specs.declared.Port.{Port}
-use Rattle.hardware.proofs.Laws.{then_end}
+use Rattle.hardware.proofs.Laws.{by_turns, then_end}
 use Rattle.words.specs.Semaphore.{software}
 use Rattle.reference.specs.Acquire.{locked}
 use Rattle.reference.specs.Sync.{plain, locked_bits}
@@ -27,7 +27,7 @@ use Rattle.mixing.proofs.Addressed.{read_addressed, write_addressed}
 use Rattle.mixing.proofs.Heed.{heeds_only}
 use Rattle.mixing.proofs.Hold.{Now, least, plus}
 use Rattle.mixing.proofs.Lock.{or_stop_lem, on_success}
-use Rattle.mixing.proofs.Only.{by_turns, only_bind, only_pick, only_raw, only_write, only_wait}
+use Rattle.mixing.proofs.Only.{only_bind, only_pick, only_raw, only_write, only_wait}
 use Rattle.mixing.proofs.Sound.{Sound, Ends, bits_bracket, honest_plain, under_heeds, under_addressed, under_wp}
 use Rattle.mixing.proofs.Wp.{View, with_sel, Wp, wp_end, wp_ask, wp_then, wp_pick, wp_read, wp_write}
 

@@ -20,7 +20,7 @@ use Rattle.mixing.specs.Model.{Kind, is_swsm, is_sync, is_ctrl, is_data, is_othe
 use Rattle.mixing.specs.Events.{Touch, if_data, touch, word}
 use Rattle.mixing.specs.System.{Caller, port_of, Access, reads, writes, Given, access_talk, NotIosf, Outside, seen_then}
 use Rattle.mixing.proofs.Kr.{bits_only}
-use Rattle.mixing.proofs.Only.{by_turns}
+use Rattle.hardware.proofs.Laws.{by_turns}
 use Rattle.mixing.proofs.Plain.{Plain, plain_acquire, plain_release}
 
 -- the address that this access selected, if it did; a store to SW_FW_SYNC may let go of the lock

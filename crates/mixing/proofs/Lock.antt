@@ -19,7 +19,8 @@ use Rattle.hardware.proofs.Bits.{bit_without, not_all_ones, test_31, only_bit}
 use Rattle.reference.specs.Sync.{smbi_turn, smbi, clear, regsmp_turn, regsmp_failed, regsmp_times, lock, unlock}
 use Rattle.mixing.specs.Model.{is_swsm, is_sync, kind}
 use Rattle.mixing.specs.Events.{word}
-use Rattle.mixing.proofs.Only.{by_turns, quiet_flush}
+use Rattle.hardware.proofs.Laws.{by_turns}
+use Rattle.mixing.proofs.Only.{quiet_flush}
 use Rattle.mixing.proofs.Wp.{
   View,
   with_smbi,

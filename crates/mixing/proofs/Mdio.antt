@@ -42,7 +42,8 @@ use Rattle.reference.specs.Mdio.{
 use Rattle.reference.specs.Sync.{plain}
 use Rattle.mixing.specs.Only.{only_end, only_ask}
 use Rattle.mixing.specs.Events.{is_ok}
-use Rattle.mixing.proofs.Only.{by_turns, far, Quiet, only_then, only_bind, only_pick, only_read, only_raw, only_write}
+use Rattle.hardware.proofs.Laws.{by_turns}
+use Rattle.mixing.proofs.Only.{far, Quiet, only_then, only_bind, only_pick, only_read, only_raw, only_write}
 use Rattle.mixing.proofs.Sound.{Sound, well_block, quietly, ends, picks, waits, bind, under, honest_plain, honest_values}
 use Rattle.mixing.proofs.Token.{token_bracket}
 

@@ -1,7 +1,7 @@
 -- Conversations that do only some actions, and those on registers of some kinds alone
 use Rattle.std.specs.Prelude.{Err, Ok}
-use Rattle.hardware.specs.Talk.{Talk, Res, and_then, pick, or_stop, ◌>>=◌, attempt, times, read, read_raw, write, flush, delay}
-use Prim.Native.Nat.{ℕ, zero, suc}
+use Rattle.hardware.specs.Talk.{Talk, Res, and_then, pick, or_stop, ◌>>=◌, attempt, read, read_raw, write, flush, delay}
+use Prim.Native.Nat.{ℕ}
 use mathlib.Core.Bool.{Bool, true, false}
 use Rattle.hardware.specs.declared.Action.{Action}
 use Rattle.hardware.specs.declared.Action.TheVariants as action
@@ -9,12 +9,6 @@ use Rattle.hardware.specs.declared.Family.{Family}
 use Rattle.hardware.specs.declared.Family.TheVariants.{X552, X553}
 use Rattle.mixing.specs.Only.{Only, only_end, only_ask}
 use Rattle.mixing.specs.Model.{Kind, is_swsm, is_sync, is_ctrl, is_data, is_other, kind, On}
-
--- a loop keeps what each turn keeps
-pub by_turns : {X : Type 0} (P : X → Type 0) (turn : X → X) (after : X) → ((x : X) → P x → P (turn x)) → P after → (n : ℕ) → P (times n turn after)
-unfolding times
-by_turns P turn after h z zero = z
-by_turns P turn after h z (suc n) = h (times n turn after) (by_turns P turn after h z n)
 
 module _ {P : Action → Type 0} where
   pub only_then : {A B : Type 0} {t : Talk A} {k : A → Talk B} → Only P t → ((a : A) → Only P (k a)) → Only P (and_then t k)

@@ -35,7 +35,8 @@ use Rattle.reference.specs.Sync.{
 use Rattle.mixing.specs.Only.{Only, only_end, only_ask}
 use Rattle.mixing.specs.Model.{kind, On}
 use Rattle.mixing.specs.System.{NotIosf, Made, done, other}
-use Rattle.mixing.proofs.Only.{by_turns, only_then, only_stop, only_bind, only_attempt, only_pick, only_read, only_write, only_wait, quiet_only, quiet_flush}
+use Rattle.hardware.proofs.Laws.{by_turns}
+use Rattle.mixing.proofs.Only.{only_then, only_stop, only_bind, only_attempt, only_pick, only_read, only_write, only_wait, quiet_only, quiet_flush}
 use Rattle.mixing.proofs.Lock.{kind_swsm, kind_sync}
 use Rattle.mixing.proofs.Hold.{quiet_mux}
 

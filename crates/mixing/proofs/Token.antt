@@ -10,7 +10,7 @@ use Rattle.hardware.specs.declared.Error.{Error}
 use Rattle.hardware.specs.declared.Error.TheVariants.{Firmware}
 use Rattle.hardware.specs.declared.Family.{Family}
 use Rattle.hardware.specs.declared.Port.{Port}
-use Rattle.hardware.proofs.Laws.{then_assoc}
+use Rattle.hardware.proofs.Laws.{by_turns, then_assoc}
 use Rattle.words.specs.Semaphore.{software}
 use Rattle.reference.specs.Acquire.{
   hw_of,
@@ -35,7 +35,7 @@ use Rattle.mixing.proofs.Addressed.{plain_addressed}
 use Rattle.mixing.proofs.Heed.{fails_after, heeds_then, heeds_bind}
 use Rattle.mixing.proofs.Hold.{Now, Least, least, plus, minus}
 use Rattle.mixing.proofs.Hostif.{s_token, plain_token}
-use Rattle.mixing.proofs.Only.{by_turns, only_bind, only_attempt, only_pick}
+use Rattle.mixing.proofs.Only.{only_bind, only_attempt, only_pick}
 use Rattle.mixing.proofs.Plain.{Plain, plain_acquire, plain_release}
 use Rattle.mixing.proofs.Sound.{Bracket, Took, Gave, EndsIf, bits_bracket, gives_back, gives_back_least, here, made_then}
 use Rattle.mixing.proofs.Wp.{View, Wp, wp_end, wp_ask, wp_then, wp_attempt, wp_mono, wp_pick}

@@ -52,7 +52,8 @@ use Rattle.mixing.proofs.Addressed.{on_lan}
 use Rattle.mixing.proofs.Hostif.{q_post}
 use Rattle.mixing.proofs.Kr.{reads_kr, writes_kr}
 use Rattle.mixing.proofs.Mdio.{s_read_reg, s_modify, s_probe, s_scan, s_reset, s_abilities, s_advertise, s_an_link}
-use Rattle.mixing.proofs.Only.{by_turns, IsFar, far, only_bind, only_read, only_raw, only_write}
+use Rattle.hardware.proofs.Laws.{by_turns}
+use Rattle.mixing.proofs.Only.{IsFar, far, only_bind, only_read, only_raw, only_write}
 use Rattle.mixing.proofs.Sound.{Sound, quietly, ends, picks, waits, bind, under, honest_plain}
 use Rattle.mixing.proofs.Token.{token_bracket}
 

@@ -1,10 +1,9 @@
 -- The words that a request counts are lent; and a request's port
 use Prim.Native.Nat.{ℕ, ◌<◌, ◌≤◌}
-use mathlib.Core.Path.{◌≡◌, refl, ap}
+use mathlib.Core.Path.{◌≡◌, refl}
 use mathlib.Core.List.{List}
 use native.Mathlib.Omega.{arith}
 use lib.ListN.{length, take}
-use Rattle.std.proofs.Common.{take_all}
 use Rattle.hardware.specs.declared.Port.{Port}
 use Rattle.operations.specs.Operations.{operation_with}
 use Rattle.operations.specs.Request.{request}

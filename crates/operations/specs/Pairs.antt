@@ -1,6 +1,5 @@
 -- A list's pairs of device and register, from the words that are lent for them
 use Rattle.std.specs.Prelude.{ℕ, Bool, true, false, ◌||◌, ltb, List, [], ◌∷◌}
-use Rattle.hardware.specs.Talk.{pick}
 
 -- two words each; a last device without a register is no pair
 abbrev pub pairs_of : List ℕ → List (ℕ × ℕ)
@@ -12,4 +11,4 @@ pairs_of (device ∷ register ∷ rest) = (device, register) ∷ pairs_of rest
 abbrev pub outside : List ℕ → Bool
 outside [] = false
 outside (device ∷ []) = true
-outside (device ∷ register ∷ rest) = pick (ltb 31 device || ltb 0xffff register) true (outside rest)
+outside (device ∷ register ∷ rest) = (ltb 31 device || ltb 0xffff register) || outside rest

@@ -1,6 +1,6 @@
 -- Two talks that are alike but for the sideband's waits, p in the one and q in the other: one law for each form of a talk
 use Rattle.std.specs.Prelude.{Ok, Err}
-use Prim.Native.Nat.{ℕ, zero, suc, ◌-◌}
+use Prim.Native.Nat.{ℕ, ◌-◌}
 use mathlib.Core.Path.{◌≡◌, refl, sym, subst, ap, ap₂, ◌∙◌, fun_ext}
 use mathlib.Core.Bool.{Bool, true, false}
 use mathlib.Core.List.{List}
@@ -9,7 +9,7 @@ use Rattle.hardware.specs.Talk.{Talk, Call, Res, Reply, end, ask, and_then, or_s
 use Rattle.hardware.specs.Block as blk
 use Rattle.hardware.specs.declared.Action.{Action}
 use Rattle.hardware.specs.declared.Action.TheVariants as action
-use Rattle.hardware.proofs.Laws.{times_more}
+use Rattle.hardware.proofs.Laws.{by_turns, times_more}
 use Rattle.reference.specs.Sync.{Ending, held, held_taken}
 use Rattle.reference.specs.Pauses.{is_ctrl, paused, paced}
 
@@ -61,12 +61,6 @@ alike_paced {p = p} {q = q} {b = b} (at_ask a {k' = k'} w) =
     ∙ ap (ask (paused p b a)) (fun_ext (λ r. alike_paced (w r)))
 
 -- ---- the forms
-
--- a loop keeps what each turn keeps
-pub by_turns : {X : Type 0} (P : X → Type 0) (turn : X → X) (after : X) → ((x : X) → P x → P (turn x)) → P after → (n : ℕ) → P (times n turn after)
-unfolding times
-by_turns P turn after h z zero = z
-by_turns P turn after h z (suc n) = h (times n turn after) (by_turns P turn after h z n)
 
 module _ {p q : ℕ} where
   pub alike_then : {A B : Type 0} {E F : Bool → Type 0} {b : Bool} {t t' : Talk A} {k k' : A → Talk B} → Alike p q E b t t'

@@ -9,6 +9,7 @@ use native.Mathlib.Nat.{pow-suc, mod-lt, zero-lt-suc}
 use borrow.Author.Tests.{lt-ltb, ltb-true, ltb-false}
 use lib.Dec.{ltb}
 use lib.ListN.{length, get_or, length-append, get_or-append}
+use Rattle.text.specs.Number.{value_of}
 use Rattle.text.specs.Hex.{digit, value, hex_word}
 use Rattle.text.specs.Digits.{glyph, last_hex, hex_digits, decimal, decimal_digits}
 use Rattle.std.specs.Option.{option_and_then}
@@ -27,7 +28,7 @@ digit_glyph d h = go (ltb d 10) refl
         rw e (digit_small (87 + d) (omega arith) (omega arith) ∙ ap Some (omega arith))
 
 value_append : (xs ys : List ℕ) (a : ℕ) → value a (xs ++ ys) ≡ option_and_then (λ v. value v ys) (value a xs)
-unfolding value
+unfolding value_of
 value_append [] ys a = refl
 value_append (x ∷ xs) ys a = go (digit x) (λ d. value_append xs ys (16 * a + d))
   where
@@ -37,7 +38,7 @@ value_append (x ∷ xs) ys a = go (digit x) (λ d. value_append xs ys (16 * a + 
     go None h = refl
 
 read_back : (k v : ℕ) → v < 16 ^ k → value 0 (last_hex k v) ≡ Some v
-unfolding last_hex value
+unfolding last_hex value_of
 read_back zero v h = ap Some (omega arith)
 read_back (suc k) v h =
     let high : v / 16 < 16 ^ k = omega (arith, pow-suc 16 k) in

@@ -5,7 +5,8 @@ use mathlib.Core.List.{[], ◌∷◌}
 use lib.ListN.{length}
 use Rattle.text.specs.Lines.{newline, line_end, bare}
 use Rattle.text.specs.Words.{pieces, full, words}
-use Rattle.text.specs.Hex.{digit, value, hex_word}
+use Rattle.text.specs.Number.{value_of}
+use Rattle.text.specs.Hex.{digit, hex_word}
 use Rattle.text.specs.Digits.{last_hex, hex_digits, decimal, decimal_digits}
 use Rattle.std.proofs.Common.{Some, None}
 
@@ -26,12 +27,12 @@ two_words = refl
 
 -- "15aD"
 either_case : hex_word 4 4 (49 ∷ 53 ∷ 97 ∷ 68 ∷ []) ≡ Some 0x15ad
-unfolding hex_word value digit
+unfolding hex_word value_of digit
 either_case = refl
 
 -- "1g"
 no_digit : hex_word 1 8 (49 ∷ 103 ∷ []) ≡ None
-unfolding hex_word value digit
+unfolding hex_word value_of digit
 no_digit = refl
 
 -- nine digits, though twelve are allowed

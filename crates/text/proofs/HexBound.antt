@@ -8,6 +8,7 @@ use native.Mathlib.Nat.{pow-succ', pow-le-pow_right, zero-lt-suc, mul_assoc, mul
 use borrow.Author.Tests.{leb-true}
 use lib.Dec.{leb}
 use lib.ListN.{length}
+use Rattle.text.specs.Number.{value_of}
 use Rattle.text.specs.Hex.{between, digit, value, hex_word}
 use Rattle.std.specs.Option.{option_and_then}
 use Rattle.std.proofs.lemmas.Option.{same_Some}
@@ -26,7 +27,7 @@ unfolding digit
 digit_below b d h = picked b d (between 48 57 b) (between 97 102 b) (between 65 70 b) refl refl refl h
 
 value_below : (v : ℕ) (bs : List ℕ) (n : ℕ) → value v bs ≡ Some n → n < (v + 1) * 16 ^ length bs
-unfolding value
+unfolding value_of
 value_below v [] n h = omega (arith, same_Some _ _ h)
 value_below v (b ∷ bs) n h = go (digit b) refl h (λ d. value_below (16 * v + d) bs n)
   where

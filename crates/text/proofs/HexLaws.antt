@@ -2,42 +2,22 @@
 use Prim.Native.Nat.{ℕ, ◌+◌, ◌-◌, ◌*◌, ◌^◌, ◌≤◌, ◌<◌}
 use mathlib.Core.Path.{◌≡◌, refl, ap}
 use mathlib.Core.Bool.{Bool, true, false, ◌&&◌}
-use mathlib.Core.List.{List}
 use native.Mathlib.Omega.{arith}
-use native.Mathlib.Numerals.{add-one}
-use native.Mathlib.Nat.{pow-suc, pow-le-pow_right, zero-lt-suc}
+use native.Mathlib.Nat.{pow-le-pow_right, zero-lt-suc}
 use borrow.Author.Tests.{le-leb, lt-leb, leb-true}
 use lib.Dec.{leb}
-use lib.ListN.{length, drop, get_or, drop_of_length-le}
-use lib.Seq.{drop-cons}
-use Rattle.text.specs.Hex.{between, digit, value, Small}
+use Rattle.text.specs.Hex.{between, digit, Small}
+use Rattle.text.proofs.NumberLaws.{one_more}
 use Rattle.std.proofs.Common.{Option, Some, None, cond, ◌∙◌, inl, inr}
 use Rattle.std.specs.Char.{digit_value, NotDecimalDigitIn, IsDigitOf}
 use Rattle.std.specs.Option.{SomeIff, MatchOption}
 use Rattle.std.proofs.lemmas.Bool.Decides.{nat_tests}
 
-module _ (word : List ℕ) (i v : ℕ) where
-  pub value_end : length word ≤ i → value v (drop i word) ≡ Some v
-  unfolding value
-  value_end h = rw (drop_of_length-le word h)
-
-  pub value_stop : i < length word → digit (get_or word i 0) ≡ None → value v (drop i word) ≡ None
-  unfolding value
-  value_stop h e = rw (drop-cons word i 0 h) (simp e)
-
-  pub value_next : (d : ℕ) → i < length word → digit (get_or word i 0) ≡ Some d → value v (drop i word) ≡ value (16 * v + d) (drop (i + 1) word)
-  unfolding value
-  value_next d h e = rw (drop-cons word i 0 h) (simp (e, add-one))
-
--- a number of i digits, and one more
-pub one_more : (i v d : ℕ) → v < 16 ^ i → d < 16 → 16 * v + d < 16 ^ (i + 1)
-one_more i v d h k = rw (add-one i, pow-suc 16 i) (omega arith)
-
 -- eight digits fill 32 bits
 pub room : (i v d : ℕ) → v < 16 ^ i → d < 16 → i < 8 → 16 * v + d < 2 ^ 32
 room i v d h k l =
     let top : 16 ^ (i + 1) ≤ 16 ^ 8 = let upto : i + 1 ≤ 8 = omega arith in pow-le-pow_right (zero-lt-suc 15) upto in
-    omega (arith, one_more i v d h k)
+    omega (arith, one_more 16 i v d h k)
 
 -- where a byte lies
 module _ (low high b : ℕ) where

@@ -2,6 +2,7 @@ pub mod LineLaws
 pub mod WordLaws
 pub mod PartLaws
 pub mod HexBound
+pub mod NumberLaws
 pub mod HexLaws
 pub mod DecimalLaws
 pub mod SameLaws

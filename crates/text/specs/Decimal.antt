@@ -1,16 +1,15 @@
 -- Decimal words
-use Rattle.std.specs.Prelude.{ℕ, ◌+◌, ◌-◌, ◌*◌, cond, List, [], ◌∷◌, leb, length, Option, Some, None}
-use Rattle.std.specs.Option.{option_and_then}
+use Rattle.std.specs.Prelude.{ℕ, ◌-◌, cond, List, leb, length, Option, Some, None}
 use Rattle.text.specs.Hex.{between}
+use Rattle.text.specs.Number.{value_of}
 
 -- `0` to `9`
 abbrev pub digit : ℕ → Option ℕ
 digit b = cond (between 48 57 b) (Some (b - 48)) None
 
 -- the value of digits after some that are worth v
-unfoldable pub value : ℕ → List ℕ → Option ℕ
-value v [] = Some v
-value v (b ∷ bs) = option_and_then (λ d. value (10 * v + d) bs) (digit b)
+abbrev pub value : ℕ → List ℕ → Option ℕ
+value = value_of 10 digit
 
 abbrev pub at_most : ℕ → Option ℕ → Option ℕ
 at_most n None = None

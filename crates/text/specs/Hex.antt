@@ -1,7 +1,7 @@
 -- Hexadecimal words
-use Rattle.std.specs.Prelude.{ℕ, ◌+◌, ◌-◌, ◌*◌, ◌<◌, Bool, ◌&&◌, cond, List, [], ◌∷◌, leb, length, Option, Some, None}
-use Rattle.std.specs.Option.{option_and_then}
+use Rattle.std.specs.Prelude.{ℕ, ◌-◌, ◌<◌, Bool, ◌&&◌, cond, List, leb, length, Option, Some, None}
 use Rattle.std.proofs.Math.Seq.{slice}
+use Rattle.text.specs.Number.{value_of}
 use Rattle.text.specs.Parts.{has_part}
 
 abbrev pub between : ℕ → ℕ → ℕ → Bool
@@ -16,9 +16,8 @@ digit b =
     None))
 
 -- the value of digits after some that are worth v
-unfoldable pub value : ℕ → List ℕ → Option ℕ
-value v [] = Some v
-value v (b ∷ bs) = option_and_then (λ d. value (16 * v + d) bs) (digit b)
+abbrev pub value : ℕ → List ℕ → Option ℕ
+value = value_of 16 digit
 
 -- a word of so many digits, eight at most
 unfoldable pub hex_word : ℕ → ℕ → List ℕ → Option ℕ

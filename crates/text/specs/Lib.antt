@@ -1,6 +1,7 @@
 pub mod Parts
 pub mod Lines
 pub mod Words
+pub mod Number
 pub mod Hex
 pub mod Decimal
 pub mod Same

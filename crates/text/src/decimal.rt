@@ -11,7 +11,7 @@ fn digit(b: u8) -> Option<u64>
     }
 }
 
-#[tactic(auto, using(crate::proofs::DecimalLaws::value_end, crate::proofs::DecimalLaws::value_stop, crate::proofs::DecimalLaws::room))]
+#[tactic(auto, using(crate::proofs::NumberLaws::value_end, crate::proofs::NumberLaws::value_stop, crate::proofs::DecimalLaws::room))]
 fn value(word: &[u8]) -> Option<u64>
     requires { length word.now ≤ 10 }
     ensures { Decimal·value 0 word.now ≡ result }

@@ -87,7 +87,7 @@ fn digit(b: u8) -> Option<u32>
 }
 
 // The value of digits, of which eight fill 32 bits.
-#[tactic(auto, using(crate::proofs::HexLaws::value_end, crate::proofs::HexLaws::value_stop, crate::proofs::HexLaws::room))]
+#[tactic(auto, using(crate::proofs::NumberLaws::value_end, crate::proofs::NumberLaws::value_stop, crate::proofs::HexLaws::room))]
 fn value(word: &[u8]) -> Option<u32>
     requires { length word.now ≤ 8 }
     ensures { Hex·value 0 word.now ≡ result }

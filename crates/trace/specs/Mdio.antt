@@ -1,5 +1,5 @@
 -- The operations of mdio.rs: their names and arguments
-use Rattle.std.specs.Prelude.{ℕ, Bool, true, false, ltb, List, [], ◌∷◌, length, Option, Some, None}
+use Rattle.std.specs.Prelude.{ℕ, Bool, true, false, ◌&&◌, leb, List, [], ◌∷◌, length, Option, Some, None}
 use Rattle.hardware.specs.Talk.{pick}
 use Rattle.text.specs.Same.{same}
 use Rattle.arguments.specs.declared.Advertised.{Advertised}
@@ -16,7 +16,7 @@ with_read_reg = with_word λ phy. with_word λ dev. with_half λ reg. no_more (R
 abbrev pub are_pairs : List ℕ → Bool
 are_pairs [] = true
 are_pairs (device ∷ []) = false
-are_pairs (device ∷ register ∷ rest) = pick (ltb 0xffff register) false (are_pairs rest)
+are_pairs (device ∷ register ∷ rest) = leb register 0xffff && are_pairs rest
 
 -- the pairs are the words that are lent
 abbrev pub with_pairs : Operation → List ℕ → Line

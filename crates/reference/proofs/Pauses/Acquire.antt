@@ -9,7 +9,8 @@ use Rattle.hardware.specs.declared.Error.TheVariants.{Firmware}
 use Rattle.hardware.specs.declared.Port.{Port}
 use Rattle.reference.specs.Sync.{Ending, locked_bits}
 use Rattle.reference.specs.Acquire.{hw_of, acquire_lost, acquire_given, acquire_got, acquire_ask, acquire_turn, acquire, release_rest, forget, release, locked}
-use Rattle.reference.proofs.Alike.{Alike, Anywhere, Same, Still, begins, by_turns, ends, tries, bind, attempts, picks, waits, holds}
+use Rattle.hardware.proofs.Laws.{by_turns}
+use Rattle.reference.proofs.Alike.{Alike, Anywhere, Same, Still, begins, ends, tries, bind, attempts, picks, waits, holds}
 use Rattle.reference.proofs.Locked.{locked_bits_lem}
 use Rattle.reference.proofs.Pauses.Sync.{of_acquire_bits, of_release_bits}
 use Rattle.reference.proofs.Pauses.Hostif.{of_token}

@@ -13,7 +13,8 @@ use Rattle.hardware.specs.declared.Port.{Port}
 use Rattle.words.specs.Hostif.{flex_mng, fits, reply_words}
 use Rattle.reference.specs.Sync.{with_block}
 use Rattle.reference.specs.Hostif.{posted, hicr_turn, started, write_turn, post, reply_length, reply_status, rest_turn, received, exchange, command, token_status, token, activity_block, activity_turn, phy_activity}
-use Rattle.reference.proofs.Alike.{Alike, at_end, at_ask, Anywhere, Still, by_turns, anywhere, follows, ends, tries, bind, picks, reads, writes, waits, holds, keeps, lends}
+use Rattle.hardware.proofs.Laws.{by_turns}
+use Rattle.reference.proofs.Alike.{Alike, at_end, at_ask, Anywhere, Still, anywhere, follows, ends, tries, bind, picks, reads, writes, waits, holds, keeps, lends}
 use Rattle.reference.proofs.Pauses.Sync.{of_acquire_bits, of_release_bits}
 
 module _ {p q : ℕ} where

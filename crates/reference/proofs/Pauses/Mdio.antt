@@ -12,7 +12,8 @@ use Rattle.words.specs.Mdio.{address}
 use Rattle.answers.specs.declared.Speeds.{Speeds}
 use Rattle.reference.specs.Sync.{plain, with_values}
 use Rattle.reference.specs.Mdio.{cycle_turn, cycle, mask, read_body, read_reg, list_body, mdio_list, write_reg, modify, probe_high, probe, scan_found, scan_turn, scan, reset_last, reset_done, reset_turn, reset, abilities, advertise, an_link}
-use Rattle.reference.proofs.Alike.{Still, by_turns, begins, ends, bind, keeps, lends, picks, reads, raws, writes, waits}
+use Rattle.hardware.proofs.Laws.{by_turns}
+use Rattle.reference.proofs.Alike.{Still, begins, ends, bind, keeps, lends, picks, reads, raws, writes, waits}
 use Rattle.reference.proofs.Pauses.Acquire.{of_locked}
 
 module _ {p q : ℕ} where

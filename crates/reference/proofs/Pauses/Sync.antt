@@ -15,7 +15,8 @@ use Rattle.hardware.specs.declared.Port.{Port}
 use Rattle.words.specs.declared.semaphore.Bits.{Bits}
 use Rattle.words.specs.Semaphore.{bits}
 use Rattle.reference.specs.Sync.{smbi_turn, smbi, clear, regsmp_turn, regsmp_failed, lock, unlock, mux, set_mux, busy, acquire_bits_got, acquire_bits_turn, acquire_bits, settle, release_bits_locked, release_bits}
-use Rattle.reference.proofs.Alike.{From, Still, by_turns, ends, tries, bind, attempts, picks, reads, writes, flushes, waits, from_anywhere}
+use Rattle.hardware.proofs.Laws.{by_turns}
+use Rattle.reference.proofs.Alike.{From, Still, ends, tries, bind, attempts, picks, reads, writes, flushes, waits, from_anywhere}
 
 no_ctrl : (f : Family) → (eqb (regs f).swsm 0x11144 ≡ false) × (eqb (regs f).sync 0x11144 ≡ false)
 no_ctrl X552 = (refl, refl)

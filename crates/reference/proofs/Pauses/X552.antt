@@ -18,7 +18,8 @@ use Rattle.answers.specs.declared.X557.{X557}
 use Rattle.reference.specs.Pauses.{paced}
 use Rattle.reference.specs.Sync.{plain}
 use Rattle.reference.specs.X552.{iosf_turn, iosf_times, iosf_idle, kr_read_body, kr_read, kr_write_body, kr_write, kr_modify, restart_lane, restart_an, restarted, kr_autoneg_lane, kr_autoneg, ixfi, nvm_word, mdio_clock, prepare_reset, prepare_found, prepare_probed, prepare_scanned, prepare_copper, Prepared, nothing, copper, prepare_then, after_reset, without100, copper_advertise, copper_turn, copper_internal, copper_link, setup_prepared, vetoed, setup}
-use Rattle.reference.proofs.Alike.{Alike, at_end, at_ask, alike_paced, Anywhere, Same, Still, by_turns, alike_then, anywhere, ends, bind, picks, reads, raws, writes, waits}
+use Rattle.hardware.proofs.Laws.{by_turns}
+use Rattle.reference.proofs.Alike.{Alike, at_end, at_ask, alike_paced, Anywhere, Same, Still, alike_then, anywhere, ends, bind, picks, reads, raws, writes, waits}
 use Rattle.reference.proofs.Pauses.Hostif.{of_post}
 use Rattle.reference.proofs.Pauses.Acquire.{of_locked_bits}
 use Rattle.reference.proofs.Pauses.Mdio.{of_read_reg, of_modify, of_probe, of_scan, of_reset, of_abilities, of_advertise, of_an_link}

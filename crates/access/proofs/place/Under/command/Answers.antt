@@ -5,4 +5,4 @@ use Rattle.access.specs.declared.place.SyncFor.TheVariants as why
 use Rattle.access.proofs.place.Under.command.Goals as goal
 
 pub returns : goal.returns
-returns c = λ b. sync_begun take_bits c.args.self (why.Command c.args.whose command.Acquiring) b _ c.command.ensures c.take-begun.ensures
+returns c = λ b. sync_begun take_bits c.args.self (why.Command c.args.whose command.Acquiring) b _ c.command.ensures c.take.ensures (c.begun.ensures b)

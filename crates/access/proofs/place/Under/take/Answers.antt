@@ -4,4 +4,4 @@ use Rattle.access.specs.declared.place.SyncFor.TheVariants as why
 use Rattle.access.proofs.place.Under.take.Goals as goal
 
 pub returns : goal.returns
-returns c = λ b. sync_begun take_bits c.args.self (why.Bits c.args.place) b _ c.bits.ensures c.take-begun.ensures
+returns c = λ b. sync_begun take_bits c.args.self (why.Bits c.args.place) b _ c.bits.ensures c.take.ensures (c.begun.ensures b)

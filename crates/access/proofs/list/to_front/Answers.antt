@@ -1,6 +1,6 @@
 use Rattle.std.proofs.Common.{take_at, length-take-le, arith, ◌∙◌}
 use Rattle.access.proofs.ListLaws.{whole}
-use Rattle.access.proofs.hold.to_front.Goals as goal
+use Rattle.access.proofs.list.to_front.Goals as goal
 
 pub returns : goal.returns
 returns c =
