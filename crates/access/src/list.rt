@@ -15,13 +15,15 @@ use jobs::job::Ended;
 use mdio::mdio::{Mdio, Wanted};
 use words::msca::address;
 
-// The list's words to the front of the block.
+// A block with the list's words at its front. They are put into another: in place the compiler would call memmove, which a C caller
+// need not have.
 #[tactic(auto, unfolding(jobs::specs::List::list_of))]
-fn to_front(block: &mut [u32; 80])
-    ensures { take 64 block.new ≡ list_of block.old }
+fn fronted(block: &[u32; 80]) -> [u32; 80]
+    ensures { take 64 result ≡ list_of block.now }
 {
-    let own = *block;
-    block[..64].copy_from_slice(&own[16..]);
+    let mut front = *block;
+    front[..64].copy_from_slice(&block[16..]);
+    front
 }
 
 // A value in the place of its pair; one beyond the list is not kept.
@@ -46,7 +48,7 @@ impl Under {
     {
         let words = usize::min(values as usize, 64);
         if words > 0 {
-            to_front(block);
+            *block = fronted(block);
         }
         Step::Done(Ended { answer, words })
     }

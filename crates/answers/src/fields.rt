@@ -12,21 +12,30 @@ use hardware::Error;
 use std::marker::Model;
 use words::link::Link;
 
-// An answer's words in a listing: a list of up to twelve, in fixed memory.
-#[derive(Drop)]
+// An answer's words in a listing: a list of up to twelve, in fixed memory, zeros behind them.
+#[derive(Clone, Copy)]
 pub struct Fields {
     words: [u32; 12],
     len: usize,
 }
 
 impl Model for Fields {
-    ghost use Rattle.std.specs.Prelude.{ℕ, ◌≤◌, List, take};
+    ghost use Rattle.std.specs.Prelude.{◌≡◌, ℕ, ◌≤◌, List, length, take};
+    ghost use Rattle.std.proofs.Common.{sym, subst, length-take-le};
+    ghost use Rattle.answers.specs.Shown.{filled};
 
     ghost Value = { List ℕ };
 
     ghost view = { λ f. take f.len f.words };
 
-    ghost invariant = { λ f. f.len ≤ 12 };
+    ghost invariant = { λ f. (f.len ≤ 12) × (length f.words ≡ 12) × (filled (take f.len f.words) ≡ f.words) };
+
+    ghost inverse = { λ ws. record { words = filled ws; len = length ws } };
+
+    ghost inverse_ok = { λ f h i. record {
+      words = h.2 i;
+      len = length-take-le f.len f.words (subst (λ (n : ℕ). f.len ≤ n) (sym h.1) h.0) i;
+    } };
 }
 
 impl Fields {
@@ -40,7 +49,7 @@ impl Fields {
     }
 
     // No answer comes to a thirteenth word, which would be left out.
-    #[tactic(auto, using(crate::proofs::Laws::room, crate::proofs::Laws::full))]
+    #[tactic(auto, using(crate::proofs::Laws::room, crate::proofs::Laws::full, crate::proofs::Laws::filled_more))]
     fn word(mut self, w: u32) -> Fields
         ensures { result ≡ added self (w ∷ []) }
     {

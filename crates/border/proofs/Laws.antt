@@ -1,7 +1,7 @@
 -- A conversation's words are 68, and what no number is
 use Prim.Native.Nat.{ℕ}
-use mathlib.Core.Path.{◌≡◌, refl, ap, sym, ◌∙◌}
-use mathlib.Core.Bool.{Bool, true, false}
+use mathlib.Core.Path.{◌≡◌, refl, ap, sym, subst, ◌∙◌}
+use mathlib.Core.Bool.{Bool, true, false, true≢false}
 use native.Mathlib.Omega.{arith}
 use Rattle.std.specs.Prelude.{Option, Some, None, ◌⊎◌}
 use mathlib.Core.Logic.{inl, inr}
@@ -14,6 +14,7 @@ use mathlib.Core.List.{List, [], ◌++◌, append-nil}
 use Rattle.std.specs.Prelude.{replicate}
 use Rattle.started.specs.Standing.{lent_of}
 use lib.Dec.{eqb}
+use Rattle.std.proofs.Common.{eqb-true}
 use lib.ListN.{length, length-append}
 use Rattle.hardware.specs.Numbers as error
 use Rattle.hardware.specs.declared.Error.{Error}
@@ -23,11 +24,13 @@ use Rattle.conversation.specs.declared.conversation.Conversation.{Conversation}
 use Rattle.started.specs.declared.standing.Standing.{Standing}
 use Rattle.packed.specs.Started.{words_standing, get_standing}
 use Rattle.reference.specs.Out.{Out}
-use Rattle.calls.specs.Conversation.{Conv, Answer, answer_at, answer_of}
+use Rattle.calls.specs.Conversation.{Conv, Step, Answer, answer_at, answer_of, step_lent}
 use Rattle.calls.specs.Run.{Shown, run_lent}
-use Rattle.calls.proofs.Laws.{ended_keeps, bad_keeps, words_keep}
-use Rattle.conversation.specs.Conversation.{conv_of, is_lent}
+use Rattle.calls.proofs.Laws.{ended_keeps, bad_keeps, words_keep, refused_says, step_stays}
+use Rattle.conversation.specs.Conversation.{conv_of, is_lent, stepped_of}
 use Rattle.conversation.specs.Run.{shown_of}
+use Rattle.conversation.proofs.Lent.{same_words}
+use Rattle.conversation.specs.declared.conversation.Stepped.{Stepped}
 use Rattle.conversation.specs.declared.run.Ran.{Ran}
 use Rattle.border.specs.Border.{answer, no_answer, answering, answers_of, answers, kept, not_run, ran_by, ran_as, ran_of, runs}
 use Rattle.border.specs.Held.{words_of, held_by, is_held}
@@ -133,3 +136,28 @@ module _ (h : Held) (rs t : List ℕ) (at : ℕ) (ws : List ℕ) (own : Conversa
         → (r.stop ≡ AfterEnd) ⊎ ((r.stop ≡ BadReply) ⊎ (r.stop ≡ Words)) → ran_of (not_run (stop_number r.stop) h at) ws' t' ≡ runs h rs t at ws
     unfolding runs
     run_away e a = let k = held_is (is_held h) e in rw (k.0, k.1) (away a)
+
+-- a call that is turned away leaves the words that were lent to it
+words_stay : (own to : Conversation) (ws ws' : List ℕ) → (lent_of own.place ≡ 0 → ws' ≡ ws) → lent_of to.place ≡ lent_of own.place
+    → (conv_of to ws').talk ≡ (conv_of own ws).talk → ws' ≡ ws
+words_stay own to ws ws' none lends says = go (eqb (lent_of own.place) 0) refl
+  where
+    go : (b : Bool) → eqb (lent_of own.place) 0 ≡ b → ws' ≡ ws
+    go true e = none (eqb-true _ _ e)
+    go false e = same_words own to ws ws' (λ z. true≢false (sym (ap (λ (n : ℕ). eqb n 0) z) ∙ e)) lends says
+
+pub step_leaves : (own : Conversation) (s : Stepped) (kind value : ℕ) (ws ws' : List ℕ)
+    → stepped_of s ws' ≡ step_lent (is_lent own ws) (conv_of own ws) kind value → (lent_of own.place ≡ 0 → ws' ≡ ws)
+    → lent_of s.to.place ≡ lent_of own.place → eqb (stop_number s.stop) 0 ≡ false → ws' ≡ ws
+step_leaves own s kind value ws ws' steps none lends out =
+    let stop : eqb (stop_number (step_lent (is_lent own ws) (conv_of own ws) kind value).stop) 0 ≡ false
+    = ap (λ (x : Step). eqb (stop_number x.stop) 0) (sym steps) ∙ out in
+    words_stay own s.to ws ws' none lends
+    (ap (λ (x : Step). x.to.talk) steps ∙ ap (λ (x : Conv). x.talk) (step_stays (is_lent own ws) (conv_of own ws) kind value stop))
+
+pub run_leaves : (own : Conversation) (r : Ran) (rs t t' : List ℕ) (at : ℕ) (ws ws' : List ℕ)
+    → shown_of r ws' t' ≡ run_lent (is_lent own ws) (conv_of own ws) rs t at → (lent_of own.place ≡ 0 → ws' ≡ ws)
+    → lent_of r.to.place ≡ lent_of own.place → (r.stop ≡ AfterEnd) ⊎ ((r.stop ≡ BadReply) ⊎ (r.stop ≡ Words)) → ws' ≡ ws
+run_leaves own r rs t t' at ws ws' shows none lends out =
+    let stop = subst (λ (s : Stop). (s ≡ AfterEnd) ⊎ ((s ≡ BadReply) ⊎ (s ≡ Words))) (ap (λ (x : Shown). x.stop) shows) out in
+    words_stay own r.to ws ws' none lends (ap (λ (x : Shown). x.talk) shows ∙ refused_says (is_lent own ws) (conv_of own ws) rs t at stop)

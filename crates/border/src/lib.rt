@@ -5,11 +5,11 @@
 pub mod held;
 pub mod port;
 
-ghost use Rattle.std.specs.Prelude.{◌≡◌, ◌-◌, ℕ, List, [], drop, length};
+ghost use Rattle.std.specs.Prelude.{◌≡◌, ◌-◌, ℕ, List, [], drop, length, eqb, false};
 ghost use Rattle.trace.specs.Operation.{by_name};
 ghost use Rattle.hardware.specs.Numbers.{misuse_number};
 ghost use Rattle.hardware.specs.declared.Misuse.TheVariants.{Unknown};
-ghost use Rattle.border.specs.Border.{stayed, nothing, outcome_of, begins, block_of, opens, steps, asks, none, answer, saying, no_answer, answers, answered_of, not_run, runs, ran_of};
+ghost use Rattle.border.specs.Border.{stayed, nothing, outcome_of, begins, block_of, opens, steps, asks, none, answer, saying, no_answer, answers, answered_of, not_run, runs, ran_of, went_on};
 ghost use Rattle.border.specs.Port.{port_of};
 
 use crate::held::{Held, hold, taken};
@@ -168,7 +168,8 @@ pub fn mansruoy_step(c: Held, kind: u32, value: u32) -> Stepped
 // The same, where the command's words are lent.
 #[tactic(auto, unfolding(crate::specs::Border::steps, crate::specs::Border::outcome_of))]
 pub fn mansruoy_step_lent(c: Held, kind: u32, value: u32, words: &mut [u32]) -> Stepped
-    ensures { outcome_of result.number result.to words.new ≡ steps c kind value words.old }
+    ensures stepped { outcome_of result.number result.to words.new ≡ steps c kind value words.old }
+    ensures refused { eqb result.number 0 ≡ false → words.new ≡ words.old }
 {
     let Some(own) = taken(c) else {
         return Stepped {
@@ -266,7 +267,8 @@ pub fn mansruoy_run_lent(
     at: usize,
     words: &mut [u32],
 ) -> Ran
-    ensures { ran_of result words.new transcript.new ≡ runs c replies.now transcript.old at words.old }
+    ensures ran { ran_of result words.new transcript.new ≡ runs c replies.now transcript.old at words.old }
+    ensures refused { went_on result.number ≡ false → words.new ≡ words.old }
 {
     let Some(own) = taken(c) else {
         return not_run(Misuse::NotHeld.number(), c, at);

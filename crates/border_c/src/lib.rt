@@ -1,9 +1,9 @@
 // The exports of the static library: the calls of `border`, under their names in c/mansruoy.h.
 #![tactic(auto)]
 
-ghost use Rattle.std.specs.Prelude.{◌≡◌, []};
+ghost use Rattle.std.specs.Prelude.{◌≡◌, [], eqb, false};
 ghost use Rattle.trace.specs.Operation.{by_name};
-ghost use Rattle.border.specs.Border.{outcome_of, begins, block_of, steps, asks, answers, answered_of, runs, ran_of};
+ghost use Rattle.border.specs.Border.{outcome_of, begins, block_of, steps, asks, answers, answered_of, runs, ran_of, went_on};
 ghost use Rattle.border.specs.Port.{port_of};
 
 use border::held::Held;
@@ -39,7 +39,8 @@ pub extern "C" fn mansruoy_step(c: Held, kind: u32, value: u32) -> Stepped
 
 #[unsafe(no_mangle)]
 pub extern "C" fn mansruoy_step_lent(c: Held, kind: u32, value: u32, words: &mut [u32]) -> Stepped
-    ensures { outcome_of result.number result.to words.new ≡ steps c kind value words.old }
+    ensures stepped { outcome_of result.number result.to words.new ≡ steps c kind value words.old }
+    ensures refused { eqb result.number 0 ≡ false → words.new ≡ words.old }
 {
     border::mansruoy_step_lent(c, kind, value, words)
 }
@@ -66,7 +67,8 @@ pub extern "C" fn mansruoy_run_lent(
     at: usize,
     words: &mut [u32],
 ) -> Ran
-    ensures { ran_of result words.new transcript.new ≡ runs c replies.now transcript.old at words.old }
+    ensures ran { ran_of result words.new transcript.new ≡ runs c replies.now transcript.old at words.old }
+    ensures refused { went_on result.number ≡ false → words.new ≡ words.old }
 {
     border::mansruoy_run_lent(c, replies, transcript, at, words)
 }

@@ -1,12 +1,14 @@
 -- What a step and a run come to
 use Rattle.hardware.specs.Talk.{Talk, ask, end, pick, Reply}
-use Rattle.std.proofs.Common.{◌≡◌, ℕ, suc, ◌+◌, ◌-◌, ◌<◌, ◌≤◌, Bool, true, false, nat_lt, true≢false, List, [], ◌∷◌, ◌++◌, length, get_or, take, drop, set, sym, refl, ap, ◌∙◌, add-zero, add_assoc, add-suc, suc-add, zero-add, arith, length-drop, take-append-drop, length-take-le, drop-drop, le-ltb, lt-ltb}
+use Rattle.std.proofs.Common.{◌≡◌, ℕ, suc, ◌+◌, ◌-◌, ◌<◌, ◌≤◌, Bool, true, false, eqb, nat_lt, true≢false, List, [], ◌∷◌, ◌++◌, length, get_or, take, drop, set, sym, refl, ap, ◌∙◌, add-zero, add_assoc, add-suc, suc-add, zero-add, arith, length-drop, take-append-drop, length-take-le, drop-drop, le-ltb, lt-ltb}
 use lib.Seq.{sets, length-sets}
 use Rattle.hardware.specs.declared.Port.{Port}
 use Rattle.hardware.proofs.TwoByTwo.{lone, first_two, just_two}
 use Rattle.hardware.specs.declared.Action.{Action}
 use Rattle.drive.specs.Act.{uses, words, reply_for}
-use Rattle.std.specs.Prelude.{Result, Err, Option, None, Some}
+use Rattle.std.specs.Prelude.{Result, Err, Option, None, Some, ◌⊎◌}
+use mathlib.Core.Logic.{inl, inr}
+use Rattle.hardware.specs.Numbers.{stop_number}
 use Rattle.hardware.specs.declared.Stop.{Stop}
 use Rattle.drive.specs.Moves.{Tape, on_tape, Moves, stays, goes, Acts, ActsBy}
 use Rattle.drive.proofs.Laws.{by}
@@ -241,13 +243,16 @@ module _ (lent : Bool) (c : Conv) (rs t : List ℕ) (at : ℕ) where
         go (end r) e h = absurd (true≢false (sym h))
         go (ask a k) e on = let room : length t - at < 3 = omega arith in run_full c.port stays e room
 
--- ---- a run that is refused leaves the transcript
+-- ---- a run that is refused leaves the transcript, and what is to be said
 
 abbrev is_refusal : Stop → Bool
 is_refusal AfterEnd = true
 is_refusal BadReply = true
 is_refusal Words = true
 is_refusal _ = false
+
+abbrev Stays : Conv → List ℕ → Shown → Type 0
+Stays c t s = (s.tape.transcript ≡ t) × (s.talk ≡ c.talk)
 
 run_goes : {A : Type 0} (m : Talk A) (rs : List ℕ) (room : ℕ) → is_refusal (run_talk m rs room).stop ≡ false
 run_goes (end r) rs room = refl
@@ -260,49 +265,78 @@ run_goes (ask a k) rs room = by_turn (nat_lt room 3) (nat_lt (length rs) (uses a
     by_turn false false r h = h
 
 module _ (c : Conv) (rs t : List ℕ) (at : ℕ) where
-  refused_keeps : is_refusal (run_all c rs t at).stop ≡ true → (run_all c rs t at).tape.transcript ≡ t
+  refused_stays : is_refusal (run_all c rs t at).stop ≡ true → Stays c t (run_all c rs t at)
   unfolding run_on
-  refused_keeps = by_talk c.talk (run_goes c.talk rs (length t - at))
+  refused_stays = by_talk c.talk (run_goes c.talk rs (length t - at))
     where
       by_bad : (b : Bool) → is_refusal (run_talk c.talk rs (length t - at)).stop ≡ false
           → is_refusal (pick b (refused_run BadReply c t at) (run_into c rs t at 0)).stop ≡ true
-          → (pick b (refused_run BadReply c t at) (run_into c rs t at 0)).tape.transcript ≡ t
-      by_bad true h e = refl
+          → Stays c t (pick b (refused_run BadReply c t at) (run_into c rs t at 0))
+      by_bad true h e = (refl, refl)
       by_bad false h e = absurd (true≢false (sym e ∙ h))
 
       by_talk : (m : Talk Out) → is_refusal (run_talk c.talk rs (length t - at)).stop ≡ false → is_refusal (run_from m c rs t at).stop ≡ true
-          → (run_from m c rs t at).tape.transcript ≡ t
-      by_talk (end r) h e = refl
+          → Stays c t (run_from m c rs t at)
+      by_talk (end r) h e = (refl, refl)
       by_talk (ask a k) h e = by_bad (bad rs) h e
 
 -- the same where words may have to be lent
 module _ (lent : Bool) (c : Conv) (rs t : List ℕ) (at : ℕ) where
-  unlent_keeps : (unlent_run c.talk c rs t at).tape.transcript ≡ t
-  unlent_keeps = by_talk c.talk
+  unlent_stays : Stays c t (unlent_run c.talk c rs t at)
+  unlent_stays = by_talk c.talk
     where
-      by_bad : (b : Bool) → (pick b (refused_run BadReply c t at) (refused_run Words c t at)).tape.transcript ≡ t
-      by_bad true = refl
-      by_bad false = refl
+      by_bad : (b : Bool) → Stays c t (pick b (refused_run BadReply c t at) (refused_run Words c t at))
+      by_bad true = (refl, refl)
+      by_bad false = (refl, refl)
 
-      by_talk : (m : Talk Out) → (unlent_run m c rs t at).tape.transcript ≡ t
-      by_talk (end r) = refl
+      by_talk : (m : Talk Out) → Stays c t (unlent_run m c rs t at)
+      by_talk (end r) = (refl, refl)
       by_talk (ask a k) = by_bad (bad rs)
 
-  lent_keeps : is_refusal (run_lent lent c rs t at).stop ≡ true → (run_lent lent c rs t at).tape.transcript ≡ t
-  lent_keeps = go lent
+  lent_stays : is_refusal (run_lent lent c rs t at).stop ≡ true → Stays c t (run_lent lent c rs t at)
+  lent_stays = go lent
     where
-      go : (l : Bool) → is_refusal (run_lent l c rs t at).stop ≡ true → (run_lent l c rs t at).tape.transcript ≡ t
-      go true h = refused_keeps c rs t at h
-      go false h = unlent_keeps
+      go : (l : Bool) → is_refusal (run_lent l c rs t at).stop ≡ true → Stays c t (run_lent l c rs t at)
+      go true h = refused_stays c rs t at h
+      go false h = unlent_stays
 
   pub ended_keeps : (run_lent lent c rs t at).stop ≡ AfterEnd → (run_lent lent c rs t at).tape.transcript ≡ t
-  ended_keeps e = lent_keeps (ap is_refusal e)
+  ended_keeps e = (lent_stays (ap is_refusal e)).0
 
   pub bad_keeps : (run_lent lent c rs t at).stop ≡ BadReply → (run_lent lent c rs t at).tape.transcript ≡ t
-  bad_keeps e = lent_keeps (ap is_refusal e)
+  bad_keeps e = (lent_stays (ap is_refusal e)).0
 
   pub words_keep : (run_lent lent c rs t at).stop ≡ Words → (run_lent lent c rs t at).tape.transcript ≡ t
-  words_keep e = lent_keeps (ap is_refusal e)
+  words_keep e = (lent_stays (ap is_refusal e)).0
+
+  pub refused_says : ((run_lent lent c rs t at).stop ≡ AfterEnd) ⊎ (((run_lent lent c rs t at).stop ≡ BadReply) ⊎ ((run_lent lent c rs t at).stop ≡ Words))
+      → (run_lent lent c rs t at).talk ≡ c.talk
+  refused_says (inl e) = (lent_stays (ap is_refusal e)).1
+  refused_says (inr (inl e)) = (lent_stays (ap is_refusal e)).1
+  refused_says (inr (inr e)) = (lent_stays (ap is_refusal e)).1
+
+-- as does a step that is refused
+pub step_stays : (lent : Bool) (c : Conv) (kind value : ℕ) → eqb (stop_number (step_lent lent c kind value).stop) 0 ≡ false
+    → (step_lent lent c kind value).to ≡ c
+step_stays true c kind value e = by_talk c.talk e
+  where
+    by_bad : (b : Bool) (s : Conv) → eqb (stop_number (pick {A = Step} b (record { stop = BadReply; to = c }) (record { stop = Done; to = s })).stop) 0 ≡ false
+        → (pick {A = Step} b (record { stop = BadReply; to = c }) (record { stop = Done; to = s })).to ≡ c
+    by_bad true s e = refl
+    by_bad false s e = absurd (true≢false e)
+
+    by_talk : (m : Talk Out) → eqb (stop_number (step_on m c kind value).stop) 0 ≡ false → (step_on m c kind value).to ≡ c
+    by_talk (end r) e = refl
+    by_talk (ask a k) e = by_bad (refuses a kind) _ e
+step_stays false c kind value e = by_talk c.talk
+  where
+    by_bad : (b : Bool) → (pick {A = Step} b (record { stop = BadReply; to = c }) (record { stop = Words; to = c })).to ≡ c
+    by_bad true = refl
+    by_bad false = refl
+
+    by_talk : (m : Talk Out) → (unlent_step m c kind).to ≡ c
+    by_talk (end r) = refl
+    by_talk (ask a k) = by_bad (refuses a kind)
 
 -- the actions done, on the conversation's tape, say all that `run` shows
 pub all_shown : (c : Conv) (rs t : List ℕ) (at : ℕ)

@@ -3,7 +3,7 @@
 
 pub mod machine;
 
-ghost use Rattle.std.specs.Prelude.{◌≡◌, ◌+◌, ◌≤◌, length, drop};
+ghost use Rattle.std.specs.Prelude.{◌≡◌, ◌+◌, ◌≤◌, ◌<◌, length, drop, Ok};
 ghost use Rattle.std.proofs.lemmas.List.Edits.{sets};
 ghost use Rattle.hardware.specs.Bound.{waited};
 ghost use Rattle.drive.specs.Act.{uses, kind, register, value, words, reply_of, reply_for};
@@ -80,28 +80,30 @@ pub fn reply_of(kind: u32, value: u32) -> Reply
     }
 }
 
-// An action's three words, at a place of the transcript.
-fn write_down(t: &mut [u32], at: usize, a: Action)
-    requires { at + 3 ≤ length t.old }
-    ensures { t.new ≡ sets t.old at (words a) }
+// An action's three words, at a place of the transcript; nothing where there is no room.
+pub fn write_down(t: &mut [u32], at: usize, a: Action)
+    ensures written { at + 3 ≤ length t.old → t.new ≡ sets t.old at (words a) }
+    ensures no_room { length t.old < at + 3 → t.new ≡ t.old }
 {
+    if at > t.len() || t.len() - at < 3 {
+        return;
+    }
     t[at] = kind_of(a);
     t[at + 1] = register_of(a);
     t[at + 2] = value_of(a);
 }
 
-// What an action is answered at a place of the script.
-#[tactic(auto, using(script::proofs::Laws::has_none, crate::proofs::Laws::uses_two, crate::proofs::Laws::reply_read))]
-fn reply_at(a: Action, replies: &[u32], used: usize) -> Reply
-    requires { used + uses a ≤ length replies.now }
-    ensures { reply_for a (drop used replies.now) ≡ result }
+// What an action is answered at a place of the script, 0 where no reply is left.
+#[tactic(auto, using(script::proofs::Laws::has_none, script::proofs::Laws::has_both, crate::proofs::Laws::uses_two, crate::proofs::Laws::reply_read))]
+pub fn reply_at(a: Action, replies: &[u32], used: usize) -> Reply
+    ensures read { used + uses a ≤ length replies.now → reply_for a (drop used replies.now) ≡ result }
+    ensures none_left { length replies.now < used + uses a → result ≡ Ok 0 }
 {
     if uses_of(a) == 0 {
         return Ok(0);
     }
     match read_pair(replies, used) {
         Some((kind, value)) => reply_of(kind, value),
-        // excluded above
         None => Ok(0),
     }
 }

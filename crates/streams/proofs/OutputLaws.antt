@@ -1,12 +1,11 @@
 -- Bytes that are put behind those that wait, or that wait alone once the others are written
-use Rattle.std.proofs.Common.{ℕ, ◌+◌, ◌≡◌, ◌≤◌, Bool, true, false, cond, List, [], ◌++◌, length, take, append_assoc, ap, sym, refl, ◌∙◌, arith, leb}
+use Rattle.std.proofs.Common.{ℕ, ◌+◌, ◌≡◌, ◌≤◌, Bool, true, false, cond, List, [], ◌++◌, length, take, append_assoc, append-nil, ap, sym, refl, leb}
 use Rattle.std.specs.Prelude.{Option, None, Some}
-use Rattle.std.specs.Option.{unwrap_or}
 use Rattle.std.specs.Io.KnownBytes.{append_known, Appends}
 use Rattle.std.proofs.KnownBytes.{Appends-nil, Appends-trans}
 use Rattle.std.proofs.Math.Seq.{sets}
 use Rattle.text.specs.Written.{written}
-use Rattle.text.proofs.PutLaws.{fitted, written_front, written_fits}
+use Rattle.text.proofs.PutLaws.{fitted, written_front}
 use Rattle.streams.specs.Output.{Prints}
 
 -- nothing was written, and bytes were put behind those that wait
@@ -20,10 +19,26 @@ sent None new xs ys a = tt
 sent (Some k) None xs ys a = elim a [ ]
 sent (Some k) (Some l) xs ys a = rw a refl
 
-pub put_behind : (known : Option (List ℕ)) (out bytes : List ℕ) (n end : ℕ) (left : List ℕ) {waiting : List ℕ} → waiting ≡ take n out
-    → written out n bytes ≡ (Some end, left) → Prints known waiting bytes known (take end left)
-put_behind known out bytes n end left {waiting} w e =
-    record { text = kept known waiting (take end left) bytes (written_front out n bytes end left e ∙ ap (λ (l : List ℕ). l ++ bytes) (sym w)) }
+pub prints_behind : (known : Option (List ℕ)) (waiting bytes left : List ℕ) → left ≡ waiting ++ bytes → Prints known waiting bytes known left
+prints_behind known waiting bytes left e = record { text = kept known waiting left bytes e }
+
+pub prints_alone : (old new : Option (List ℕ)) (waiting bytes left : List ℕ) → Appends old new waiting → left ≡ bytes → Prints old waiting bytes new left
+prints_alone old new waiting bytes left a e = record { text = rw e (sent old new waiting bytes a) }
+
+-- all were written
+through : (old mid new : Option (List ℕ)) (xs ys : List ℕ) → Appends old mid xs → Appends mid new ys → Appends (append_known old xs) (append_known new []) ys
+through None mid new xs ys a b = tt
+through (Some k) None new xs ys a b = elim a [ ]
+through (Some k) (Some l) None xs ys a b = elim b [ ]
+through (Some k) (Some l) (Some m) xs ys a b = rw (append-nil, b, a) refl
+
+pub prints_through : (old mid new : Option (List ℕ)) (waiting bytes left : List ℕ) → Appends old mid waiting → Appends mid new bytes → left ≡ []
+    → Prints old waiting bytes new left
+prints_through old mid new waiting bytes left a b e = record { text = rw e (through old mid new waiting bytes a b) }
+
+-- what is kept in fixed memory: the bytes behind those that wait, or these alone where there is no room
+pub kept_behind : (out bytes : List ℕ) (n end : ℕ) (left : List ℕ) → written out n bytes ≡ (Some end, left) → take end left ≡ take n out ++ bytes
+kept_behind out bytes n end left e = written_front out n bytes end left e
 
 -- where they did not fit, the memory is as it was
 full_kept : (out bytes : List ℕ) (n : ℕ) (left : List ℕ) → written out n bytes ≡ (None, left) → left ≡ out
@@ -36,26 +51,11 @@ full_kept out bytes n left e = go (leb (n + length bytes) (length out)) e
         let z : ⊥ = cc in absurd z
     go false e = sym (ap (λ (p : Option ℕ × List ℕ). p.1) e)
 
--- put at the start, they wait alone where they fit
-alone : (out bytes : List ℕ) (r : Option ℕ) (left : List ℕ) → written out 0 bytes ≡ (r, left) → length bytes ≤ length out
-    → take (unwrap_or r 0) left ≡ bytes
-alone out bytes (Some end) left e h = written_front out 0 bytes end left e
-alone out bytes None left e h =
-    let full : None ≡ Some (0 + length bytes) = ap (λ (p : Option ℕ × List ℕ). p.0) (sym e ∙ written_fits out 0 bytes (omega (arith, h))) in cc
+pub kept_none : (out bytes : List ℕ) (n : ℕ) (left : List ℕ) → written out n bytes ≡ (None, left) → take n left ≡ take n out
+kept_none out bytes n left e = ap (take n) (full_kept out bytes n left e)
 
--- bytes that did not fit behind those that wait: these were written
-pub put_alone : (old new : Option (List ℕ)) (out mid bytes : List ℕ) (n : ℕ) (r : Option ℕ) (left : List ℕ) {end : ℕ} {waiting : List ℕ}
-    → waiting ≡ take n out → written out n bytes ≡ (None, mid) → Appends old new (take n mid)
-    → written mid 0 bytes ≡ (r, left) → end ≡ unwrap_or r 0 → length bytes ≤ length mid → Prints old waiting bytes new (take end left)
-put_alone old new out mid bytes n r left {end} {waiting} w full a e to fits =
-    let same : waiting ≡ take n mid = w ∙ ap (take n) (sym (full_kept out bytes n mid full)) in
-    let rest : take end left ≡ bytes = ap (λ (m : ℕ). take m left) to ∙ alone mid bytes r left e fits in
-    record { text = rw (same, rest) (sent old new (take n mid) bytes a) }
-
--- what waits has room in any case
-pub room : (out bytes : List ℕ) (n : ℕ) (r : Option ℕ) (left : List ℕ) → written out n bytes ≡ (r, left) → unwrap_or r 0 ≤ length out
-room out bytes n (Some end) left e = (fitted out n bytes end left e).within
-room out bytes n None left e = omega arith
+pub room : (out bytes : List ℕ) (n end : ℕ) (left : List ℕ) → written out n bytes ≡ (Some end, left) → end ≤ length out
+room out bytes n end left e = (fitted out n bytes end left e).within
 
 pub prints_none : {known : Option (List ℕ)} {waiting : List ℕ} → Prints known waiting [] known waiting
 prints_none {known} {waiting} = record { text = Appends-nil (append_known known waiting) }

@@ -1,5 +1,5 @@
 // Lines to a writer, through memory in which they wait.
-ghost use Rattle.std.specs.Prelude.{◌≡◌, ◌≤◌, [], length, OnOk};
+ghost use Rattle.std.specs.Prelude.{◌≡◌, [], ◌++◌, true, false, OnOk, OnErr};
 ghost use Rattle.std.specs.Io.KnownBytes.{Appends};
 ghost use Rattle.streams.specs.Output.{Prints};
 
@@ -34,23 +34,40 @@ impl Waiting {
         }
     }
 
-    // Bytes behind those that wait; where there is no room, those are written first.
-    pub fn print<W: Write>(&mut self, sink: &mut W, bytes: &[u8]) -> io::Result<()>
-        ensures { OnOk result (length bytes.now ≤ 65536 → Prints (W.contents sink.old) self.old bytes.now (W.contents sink.new) self.new) }
+    // Whether there is room for more bytes; they wait too then.
+    fn keep(&mut self, bytes: &[u8]) -> bool
+        ensures kept { result ≡ true → self.new ≡ self.old ++ bytes.now }
+        ensures full { result ≡ false → self.new ≡ self.old }
     {
-        if let Some(len) = text::put(&mut self.bytes, self.len, bytes) {
-            self.len = len;
-            return Ok(());
+        match text::put(&mut self.bytes, self.len, bytes) {
+            Some(len) => {
+                self.len = len;
+                true
+            }
+            None => false,
         }
-        self.write(sink)?;
-        self.len = text::put(&mut self.bytes, 0, bytes).unwrap_or(0);
-        Ok(())
     }
 
-    // All that wait are written, and none waits then.
+    // Bytes behind those that wait. Where there is no room, those are written first, and these too where they are more than the
+    // memory holds.
+    pub fn print<W: Write>(&mut self, sink: &mut W, bytes: &[u8]) -> io::Result<()>
+        ensures { OnOk result (Prints (W.contents sink.old) self.old bytes.now (W.contents sink.new) self.new) }
+    {
+        if self.keep(bytes) {
+            return Ok(());
+        }
+        self.flush(sink)?;
+        if self.keep(bytes) {
+            return Ok(());
+        }
+        sink.write_all(bytes)
+    }
+
+    // All that wait are written, and none waits then; where that fails, they wait as before.
     pub fn flush<W: Write>(&mut self, sink: &mut W) -> io::Result<()>
         ensures written { OnOk result (Appends (W.contents sink.old) (W.contents sink.new) self.old) }
         ensures none { OnOk result (self.new ≡ []) }
+        ensures failed { OnErr result (self.new ≡ self.old) }
     {
         self.write(sink)?;
         self.len = 0;
